@@ -66,6 +66,17 @@ def brute_force():
     common.expect(all(sums[kind] > audit_model.COUNT // 10 for kind in (*KINDS, "flaws")), f"too few findings: {sums}")
 
 
+def wide_fills():
+    """Fills with a flag that we do not know repeat each other only if the bytes agree that it may make a pattern."""
+    def kinds(*patterns):
+        fills = (entry(FILL, 0x01000E, 0x8000 + 32 * k, 0x11, 0x2000, 64, own) for k, own in enumerate(patterns))
+        report, status = audited(batch(*fills))
+        return status, [it["what"]["kind"] for it in report["findings"]]
+
+    common.expect(kinds(0x22, 0x33) == (1, ["missing"]), f"other patterns: {kinds(0x22, 0x33)}")
+    common.expect(kinds(0x22, 0x22) == (0, [audit_model.REPEATED]), f"the same pattern: {kinds(0x22, 0x22)}")
+
+
 def found_in_batch(members):
     """What is found of a batch of these members, but for its size and records within its descriptors, which move with
     them."""
@@ -243,7 +254,7 @@ def main(words):
         audit_model.COUNT = numbers[-1]
     parts = [brute_force, padded, accepting, till_none_is_left, padded_accepting, by_hand, costs_by_hand]
     parts += [hazards_by_hand, stale_by_hand, soon_accepted, pictures, sizes, no_effect, known_beside_unknown, alike]
-    parts += [too_large]
+    parts += [wide_fills, too_large]
     parts += [planned, staged, lines, lists, unseen]
     parts += [ends, in_parts, small_memory, forms, speed, soon_drawn]
     for part in named(parts, [it for it in words if not it.isdigit()]):

@@ -199,13 +199,18 @@ def by_hand():
         accepted = [it["what"]["earlier"] for it in report["findings"] if it["severity"] == "accepted"]
         common.expect((status, accepted + errors) == (1, [*wanted]), f"{wanted}: {status}, {report['findings']}")
     reads = entry(COMPARE, 0x0E, 0x8020, 0x2000, 0x9000, 8)
-    copies = bytearray(move(0x2000, 0x3000, size=64, record_at=0x8040).bytes())
+    unfenced = move(0x2000, 0x3000, size=64, record_at=0x8040).bytes()
+    copies = bytearray(unfenced)
     copies[4] |= 1
     keys = ["missing fence, read after write; batch of 3; member 1: compare, 8 bytes; member 0: move, 64 bytes"]
     words = ["--await", "batches", "--resident", "--deny", "needless"]
     report, status = with_keys(batch(first, reads, bytes(copies)), keys, *words)
     kinds = [(it["what"]["kind"], it["severity"]) for it in report["findings"]]
     common.expect((status, kinds) == (0, [("missing", "accepted")]), f"a fence is freed: {status}, {kinds}")
+    report, status = with_keys(batch(first, reads, unfenced), keys)
+    found = [(it["member"], it["what"]["kind"], it["severity"]) for it in report["findings"]]
+    wanted = [(1, "missing", "accepted"), (2, "missing", "error")]
+    common.expect((status, found) == (1, wanted), f"an accepted fence counts as set: {status}, {found}")
 
 
 def costs_by_hand():

@@ -238,8 +238,7 @@ def sharing(text, folder):
         command = [text, "resume", "--records", f"{folder}/some"]
         ran = subprocess.run(command, input="".join(lines), capture_output=True, text=True)
         wanted = (1, "", f"error: {words.format(*pair, *pair)}\n{notes}") if pair else (0, lines[2], "")
-        said = re.sub("warning: piece .*\n", "", ran.stderr)
-        got = (ran.returncode, ran.stdout, said)
+        got = (ran.returncode, ran.stdout, ran.stderr)
         expect(got == wanted, f"resume of {lines}: wanted {wanted}, got {got}")
     ran = subprocess.run([text, "explain"], input="".join(one_record), capture_output=True, text=True)
     expect((ran.returncode, ran.stderr) == (0, shared_by_all), f"explain of {one_record}: {ran.stderr!r}")

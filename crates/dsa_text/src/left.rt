@@ -98,7 +98,8 @@ fn early_note(
 }
 
 /// The notes and warnings about a list and records: how long the records should be; else which operations meet the
-/// records of others, and that submitting the groups of its plan in turn does not leave such records.
+/// records of others; else that submitting the groups of its plan in turn does not leave such records. A record that
+/// pieces share does not say which of them has begun.
 pub(crate) fn resume_notes(
     alloc: Global,
     text: &[u8],
@@ -122,5 +123,8 @@ pub(crate) fn resume_notes(
         warnings_of(alloc, operations, settings)?,
         overwritten_notes(alloc, operations, settings)?,
     )?;
-    joined(shared, early_note(alloc, &list, settings, records)?)
+    match shared {
+        Some(notes) => Ok(Some(notes)),
+        None => early_note(alloc, &list, settings, records),
+    }
 }

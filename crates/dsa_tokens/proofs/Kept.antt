@@ -10,7 +10,7 @@ use Rattle.dsa_tokens.specs.Said.{Holds}
 use Rattle.dsa_tokens.specs.Spelled.{HasOthers, is_named}
 use Rattle.dsa_tokens.specs.declared.slots.Slot.{Slot}
 
--- names that are told apart by their bytes
+-- different names, by their bytes
 pub apart : (k l : List ℕ) → bytes_eq k l ≡ false → k ≢ l
 apart k l e same = true≢false (sym ((bytes_eq-Decides k l).1 same) ∙ e)
 

@@ -9,6 +9,8 @@ mod calls;
 #[cfg(test)]
 mod cert;
 #[cfg(test)]
+mod checksum;
+#[cfg(test)]
 mod conflicts;
 #[cfg(test)]
 mod descriptor;

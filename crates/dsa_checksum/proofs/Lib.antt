@@ -1,0 +1,5 @@
+pub mod Steps
+pub mod Division
+pub mod Tables
+pub mod Turned
+pub mod Going

@@ -29,6 +29,11 @@ def check(pairs, prices):
     return filled(before, "null" if pairs else "0", after)
 
 
+def replay(part):
+    image = '"image":{"base":0,"bytes":""},"engines":1'
+    return filled(f'{{"do":"replay","list":"",{image},{SETTINGS},"trace":[', part, "]}")
+
+
 def by_size(part):
     rules = SETTINGS.replace('"batch":14', '"batch":[..]').replace('"version":1', '"version":2')
     before, after = f'{{"do":"plan","list":"",{rules}}}'.split("..")
@@ -47,11 +52,13 @@ TEXTS = {
     "a long fraction": lambda: ("0." + "1" * (LENGTH - 2), 3, 81),
     "escapes": lambda: ('"' + "\\u0041" * (LENGTH // 6 - 1) + '"', 3, 81),
     "a text without its end": lambda: ('"' + "x" * (LENGTH - 1), 3, 80),
-    "groups of one": lambda: (judge("[true]"), 14, 40),
-    "empty groups": lambda: (judge("[]"), 17, 41),
-    "pairs of nothing": lambda: (check("..", ""), 8, 61),
-    "prices of 0": lambda: (check("", ".."), 10, 61),
-    "prices by size": lambda: (by_size("0"), 10, 83),
+    "groups of one": lambda: (judge("[true]"), 3, 40),
+    "empty groups": lambda: (judge("[]"), 3, 41),
+    "one long group": lambda: (filled(f'{{"do":"judge","list":"",{SETTINGS},"plan":[[', "true", "]]}"), 3, 40),
+    "pairs of nothing": lambda: (check("..", ""), 3, 61),
+    "prices of 0": lambda: (check("", ".."), 3, 61),
+    "prices by size": lambda: (by_size("0"), 3, 83),
+    "events": lambda: (replay('[0,"take",0]'), 4, 76),
 }
 
 

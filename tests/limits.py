@@ -145,6 +145,41 @@ def engines():
         expect_line([DSA], replay(pieces, memory, engines, in_turn(count, engines)), line)
 
 
+def cut():
+    """Plans, certificates and tables with more items than are kept, and with fewer: what is left out changes no answer,
+    and an item of another kind is found wherever it is."""
+    for groups in range(MOST, MOST + 5):
+        for pieces in (2, MOST):
+            plans = [[False]] * min(pieces, groups) + [[]] * (groups - pieces)
+            full = len(plans) == pieces
+            line = raw({"cost": 10 * pieces}) if full else f"refused 41 GroupSize {pieces}"
+            expect_line([DSA], judge(apart(pieces, 8), plans, RULES), line)
+            # the last group has a flag more, so there are too many
+            more = plans[:-1] + [plans[-1] + [True]]
+            expect_line([DSA], judge(apart(pieces, 8), more, RULES), "refused 40 Count")
+            if groups > pieces:
+                moved = [[False]] * (pieces - 1) + [[]] * (groups - pieces) + [[False]]
+                expect_line([DSA], judge(apart(pieces, 8), moved, RULES), f"refused 41 GroupSize {pieces - 1}")
+        for last, number in (([1], "81 Member"), (False, "81 Member"), (["x"], "81 Member")):
+            expect_line([DSA], judge(apart(2, 8), [[]] * (groups - 1) + [last], RULES), f"refused {number}")
+    pieces, plans, costs = apart(MOST, 8), full_batches(MOST), least_costs(MOST)
+    portal, staging = (f'"{it.hex()}"' for it in model.emission(plans, pieces, AREA))
+    for more in range(-1, 4):
+        for prices, pairs in ((MOST + 1 + more, MOST), (MOST + 1, MOST + more)):
+            certificate = {"pairs": [None] * pairs, "prices": (costs + [0] * 4)[:prices], "version": 1}
+            line = raw({"cost": costs[-1]}) if more == 0 else "refused 61 Lengths"
+            expect_line([DSA], job("check", RULES, portal=portal, staging=staging, certificate=certificate), line)
+            late = {**certificate, "pairs": [None] * (pairs - 1) + [0]}
+            text = job("check", RULES, portal=portal, staging=staging, certificate=late)
+            expect_line([DSA], text, "refused 50 Shape")
+    for sizes in range(MOST_MEMBERS - 2, MOST_MEMBERS + 4):
+        rules = settings(**LIMITS, version=2, batch=[14] * sizes)
+        line = raw({"cost": 20}) if sizes == MOST_MEMBERS - 1 else "refused 83 Settings"
+        expect_line([DSA], judge(apart(2, 8), [[False], [False]], rules), line)
+        late = settings(**LIMITS, version=2, batch=[14] * sizes + ["x"])
+        expect_line([DSA], judge(apart(2, 8), [[False], [False]], late), "refused 81 Member")
+
+
 def hostile():
     """Hostile texts are refused, and take no more memory than they may."""
     for name, made in TEXTS.items():
@@ -156,7 +191,7 @@ def hostile():
 def main(words):
     global DSA
     DSA = program("dsa")
-    for part in named([planned, long_runs, images, events, engines, hostile], words):
+    for part in named([planned, long_runs, images, events, engines, cut, hostile], words):
         part()
 
 

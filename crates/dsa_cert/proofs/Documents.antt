@@ -1,5 +1,5 @@
 -- Documents, member by member, and pairs, number by number.
-use Rattle.std.proofs.Common.{◌≡◌, ◌≢◌, ◌⊎◌, inl, inr, ℕ, List, [], ◌∷◌, codes, Option, Some, None, is_some, Vec, Global, Bool, true, false, refl, sym, ap, subst, ◌∙◌}
+use Rattle.std.proofs.Common.{◌≡◌, ◌≢◌, ◌⊎◌, inl, inr, ℕ, List, codes, Option, Some, None, is_some, Vec, Global, true, false, refl, ap, subst, ◌∙◌}
 use Rattle.std.specs.List.Sorted.{IsStrictlySortedBy}
 use Rattle.std.proofs.lemmas.List.Elements.{recursion_from_All, All-from_recursion}
 use Rattle.serde_json.specs.Data.{Data, array, object, Items, no_items, item, Members, put}
@@ -10,9 +10,10 @@ use Rattle.dsa_tokens.specs.Spelled.{AreInOrder, HasOthers, Reads, is_named, mem
 use Rattle.dsa_tokens.specs.declared.slots.Slot.{Slot}
 use Rattle.dsa_tokens.specs.declared.slots.Slot.TheVariants as slot
 use Rattle.dsa_tokens.proofs.Names.{all_there, held_there, names_are, no_others}
+use Rattle.dsa_tokens.proofs.Added.{kept_none, kept_some}
 use Rattle.dsa_tokens.proofs.Items.{number_of_value, array_fits, array_spelled, no_array_fits, no_array_spelled}
 use Rattle.dsa_tokens.proofs.Kept.{put_slot, keep_slot, keep_others, more_others, unlike}
-use Rattle.dsa_cert.specs.Document.{Documents, PairFits, ReadsPair, ReadsTwo, document_fields, pair_value, pairs_value, prices_value}
+use Rattle.dsa_cert.specs.Document.{Documents, PairFits, ReadsPair, ReadsTwo, document_fields, kept_contents, most_pairs, most_prices, pair_value, pairs_value, prices_value}
 use Rattle.dsa_cert.proofs.Objects.{object_spelled}
 use Rattle.dsa_cert.specs.Held.{AreHeld, PairsTwo, SaysPairs, SaysPrices, SaysVersion, document_names}
 use Rattle.dsa_cert.specs.declared.reading.Held.{Held}
@@ -82,26 +83,35 @@ module _ (h : Held) (ms : Members) (are : AreHeld h ms) where
   all_held c (is, fits) =
       let same : ms ≡ members_of (document_fields c) = cc in (
         held_there SaysVersion (get_member (codes "version") ms) h.version (whole c.version) are.version (ap (get_member (codes "version")) same) (λ other. other c.version refl),
-        held_there SaysPrices (get_member (codes "prices") ms) h.prices (prices_value c.prices) are.prices (ap (get_member (codes "prices")) same) (λ other. no_array_spelled {A = ℕ} whole (λ n. n) (prices_value c.prices) other c.prices refl),
+        held_there SaysPrices (get_member (codes "prices") ms) h.prices (prices_value c.prices) are.prices (ap (get_member (codes "prices")) same) (λ other. no_array_spelled {A = ℕ} whole (λ n. n) (prices_value c.prices) (kept_none SaysVersion (Some most_prices) (prices_value c.prices) other) c.prices refl),
         held_there SaysPairs (get_member (codes "pairs") ms) h.pairs (pairs_value c.pairs) are.pairs (ap (get_member (codes "pairs")) same)
-            (λ other. no_array_fits {A = Option (ℕ × ℕ)} pair_value PairFits (λ pair. pair) (pairs_value c.pairs) other c.pairs (recursion_from_All PairFits c.pairs fits) refl),
+            (λ other. no_array_fits {A = Option (ℕ × ℕ)} pair_value PairFits (λ pair. pair) (pairs_value c.pairs) (kept_none ReadsPair (Some most_pairs) (pairs_value c.pairs) other) c.pairs (recursion_from_All PairFits c.pairs fits) refl),
       )
 
-  -- where each was read and there is no other, it is one
+  -- where each was read and there is no other, it is one, of which this was kept
   pub is_document : (version : ℕ) (prices : Vec ℕ Global) (pairs : Vec (Option (ℕ × ℕ)) Global) → AreInOrder ms → h.has_others ≡ false → h.version ≡ slot.Held version → h.prices ≡ slot.Held prices → h.pairs ≡ slot.Held pairs
-      → Documents (object ms) (record { version = version; prices = prices.items; pairs = pairs.items })
+      → (c : Contents) × Documents (object ms) c × (record { version = version; prices = prices.items; pairs = pairs.items } ≡ kept_contents c)
   unfolding IsStrictlySortedBy
   is_document version prices pairs order none is_version is_prices is_pairs =
       let v = subst (Holds SaysVersion (get_member (codes "version") ms)) is_version are.version in
       let p = subst (Holds SaysPrices (get_member (codes "prices") ms)) is_prices are.prices in
       let q = subst (Holds SaysPairs (get_member (codes "pairs") ms)) is_pairs are.pairs in
-      let all = array_fits {A = Option (ℕ × ℕ)} pair_value PairFits (λ pair. pair) q.0 pairs.items q.2 in
+      let all_prices = kept_some SaysVersion (Some most_prices) p.0 prices.items p.2 in
+      let all_pairs = kept_some ReadsPair (Some most_pairs) q.0 pairs.items q.2 in
+      let all = array_fits {A = Option (ℕ × ℕ)} pair_value PairFits (λ pair. pair) q.0 all_pairs.0 all_pairs.1 in
+      let c : Contents = record { version = version; prices = all_prices.0; pairs = all_pairs.0 } in
       let others = subst (HasOthers document_names ms) none are.others in
       let at_version : get_member (codes "version") ms ≡ Some (whole version) = v.1 ∙ ap Some v.2 in
-      let at_prices : get_member (codes "prices") ms ≡ Some (prices_value prices.items) = p.1 ∙ ap Some (array_spelled {A = ℕ} whole (λ n. n) p.0 prices.items p.2) in
-      let at_pairs : get_member (codes "pairs") ms ≡ Some (pairs_value pairs.items) = q.1 ∙ ap Some all.0 in
+      let at_prices : get_member (codes "prices") ms ≡ Some (prices_value c.prices) = p.1 ∙ ap Some (array_spelled {A = ℕ} whole (λ n. n) p.0 all_prices.0 all_prices.1) in
+      let at_pairs : get_member (codes "pairs") ms ≡ Some (pairs_value c.pairs) = q.1 ∙ ap Some all.0 in
       let there = all_there ms document_names others (ap is_some at_pairs, (ap is_some at_prices, (ap is_some at_version, tt))) in
-      let names = names_are ms document_names order ((refl, (refl, tt)), ((refl, tt), (tt, tt))) there in (
-        object_spelled (object ms) (document_fields (record { version = version; prices = prices.items; pairs = pairs.items })) (ap Some names) refl (at_pairs, (at_prices, (at_version, tt))),
-        All-from_recursion PairFits pairs.items all.1,
+      let names = names_are ms document_names order ((refl, (refl, tt)), ((refl, tt), (tt, tt))) there in
+      let first_prices = all_prices.2 in
+      let first_pairs = all_pairs.2 in (
+        c,
+        (
+          object_spelled (object ms) (document_fields c) (ap Some names) refl (at_pairs, (at_prices, (at_version, tt))),
+          All-from_recursion PairFits c.pairs all.1,
+        ),
+        λ i. record { version = version; prices = first_prices i; pairs = first_pairs i },
       )

@@ -1,6 +1,7 @@
 -- The document of a certificate, as a JSON value.
-use Rattle.std.specs.Prelude.{◌≡◌, ◌≢◌, ℕ, ◌^◌, ◌<◌, ⊤, List, [], ◌∷◌, All, map, codes, Option, Some, None}
+use Rattle.std.specs.Prelude.{◌≡◌, ◌≢◌, ℕ, ◌+◌, ◌^◌, ◌<◌, ⊤, List, [], ◌∷◌, All, map, take, codes, Option, Some, None}
 use Rattle.serde_json.specs.Data.{Data, null, array, Items}
+use Rattle.dsa_descriptor.specs.Pieces.{most_pieces}
 use Rattle.dsa_plan.specs.Certificate.{Contents, contents}
 use Rattle.dsa_plan.specs.declared.certificate.Certificate.{Certificate}
 use Rattle.dsa_tokens.specs.Spelled.{whole, array_of, object_of, ReadsFit}
@@ -55,7 +56,21 @@ abbrev pub ReadsTwo : Items → Option (ℕ × ℕ) → Type 0
 ReadsTwo ds None = (pair : ℕ × ℕ) → PairFits (Some pair) → array ds ≢ pair_value (Some pair)
 ReadsTwo ds (Some pair) = (array ds ≡ pair_value (Some pair)) × PairFits (Some pair)
 
--- a reader of documents answers the certificate that the value spells, or that it spells none
+-- ---- what is kept of a certificate that is read from tokens
+
+-- the most pairs: one more than a list has pieces (this project's choice)
+abbrev pub most_pairs : ℕ
+most_pairs = most_pieces + 1
+
+-- the most prices: one more than a list of the most pieces has (this project's choice)
+abbrev pub most_prices : ℕ
+most_prices = most_pieces + 2
+
+-- the first prices and pairs; a certificate with more is refused for their number, and what is kept of it too
+abbrev pub kept_contents : Contents → Contents
+kept_contents c = record { version = c.version; prices = take most_prices c.prices; pairs = take most_pairs c.pairs }
+
+-- a reader of documents answers what is kept of the certificate that the value spells, or that it spells none
 abbrev pub ReadsDocument : Data → Option Certificate → Type 0
 ReadsDocument d None = (c : Contents) → ¬ Documents d c
-ReadsDocument d (Some certificate) = Documents d (contents certificate)
+ReadsDocument d (Some certificate) = (c : Contents) × Documents d c × (contents certificate ≡ kept_contents c)

@@ -3,9 +3,9 @@ use Rattle.std.specs.Prelude.{◌≡◌, ◌≢◌, ℕ, ◌⊎◌, List, [], �
 use Rattle.std.specs.declared.alloc.Global.{Global}
 use Rattle.serde_json.specs.Data.{Data, Members}
 use Rattle.serde_json.specs.Find.{get_member}
-use Rattle.dsa_tokens.specs.Said.{Holds, IsArray}
+use Rattle.dsa_tokens.specs.Said.{Holds, IsArrayUpTo}
 use Rattle.dsa_tokens.specs.Spelled.{HasOthers, Reads, whole}
-use Rattle.dsa_cert.specs.Document.{PairFits, ReadsPair}
+use Rattle.dsa_cert.specs.Document.{PairFits, ReadsPair, most_pairs, most_prices}
 use Rattle.dsa_cert.specs.declared.reading.Held.{Held}
 
 -- the names of the members
@@ -14,7 +14,7 @@ document_names = codes "pairs" ∷ codes "prices" ∷ codes "version" ∷ []
 
 -- what is said of the value of the pairs
 abbrev pub SaysPairs : Data → Option (Vec (Option (ℕ × ℕ)) Global) → Type 0
-SaysPairs d found = IsArray ReadsPair d (option_map (λ v. v.items) found)
+SaysPairs d found = IsArrayUpTo (Some most_pairs) ReadsPair d (option_map (λ v. v.items) found)
 
 -- of the version
 abbrev pub SaysVersion : Data → Option ℕ → Type 0
@@ -22,7 +22,7 @@ SaysVersion d found = Reads {X = ℕ} whole (λ n. n) d found
 
 -- of the prices
 abbrev pub SaysPrices : Data → Option (Vec ℕ Global) → Type 0
-SaysPrices d found = IsArray SaysVersion d (option_map (λ v. v.items) found)
+SaysPrices d found = IsArrayUpTo (Some most_prices) SaysVersion d (option_map (λ v. v.items) found)
 
 -- what was read is of these members
 pub record AreHeld (h : Held) (ms : Members) : Type 0 where

@@ -4,15 +4,22 @@ ghost use Rattle.serde_json.specs.Data.{Members, object};
 ghost use Rattle.dsa_tokens.specs.Spelled.{AreInOrder};
 ghost use Rattle.dsa_tokens.specs.Taken.{AnswersItems};
 ghost use Rattle.dsa_cert.specs.Document.{ReadsDocument, ReadsPair, ReadsTwo};
-ghost use Rattle.dsa_cert.specs.Held.{AreHeld, PairsTwo};
+ghost use Rattle.dsa_cert.specs.Held.{AreHeld, PairsTwo, SaysPairs, SaysPrices};
 
+use dsa_descriptor::MOST_PIECES;
 use dsa_plan::Certificate;
 use dsa_tokens::{
-    Fields, Kind, ListOf, Slot, Unread, Whole, end_items, next_item, object_into, pass_member,
+    Fields, Kind, Slot, Unread, Whole, end_items, list_up_to, next_item, object_into, pass_member,
     pass_other, read_into,
 };
 use json::{Reader, Token};
 use std::alloc::Global;
+
+/// The most pairs that are kept. A certificate with more is refused for their number, however many they are.
+const MOST_PAIRS: usize = MOST_PIECES + 1;
+
+/// The most prices that are kept, in the same way.
+const MOST_PRICES: usize = MOST_PIECES + 2;
 
 /// Two numbers, if both are there and fit their places.
 fn pair_with(first: Option<u64>, second: Option<u64>) -> Option<(u32, u32)>
@@ -80,6 +87,42 @@ impl<'t> Kind<'t> for Pair {
     }
 }
 
+/// The pairs of a certificate, of which the first are kept.
+struct Pairs;
+
+impl<'t> Kind<'t> for Pairs {
+    type Found = Vec<Option<(u32, u32)>>;
+
+    ghost says = { SaysPairs };
+
+    fn read(
+        alloc: Global,
+        first: Token<'t>,
+        reader: &mut Reader<'t>,
+        depth: usize,
+    ) -> Result<Option<Vec<Option<(u32, u32)>>>, Unread> {
+        list_up_to::<Pair>(Some(MOST_PAIRS), alloc, first, reader, depth)
+    }
+}
+
+/// The prices of a certificate, of which the first are kept.
+struct Prices;
+
+impl<'t> Kind<'t> for Prices {
+    type Found = Vec<u64>;
+
+    ghost says = { SaysPrices };
+
+    fn read(
+        alloc: Global,
+        first: Token<'t>,
+        reader: &mut Reader<'t>,
+        depth: usize,
+    ) -> Result<Option<Vec<u64>>, Unread> {
+        list_up_to::<Whole>(Some(MOST_PRICES), alloc, first, reader, depth)
+    }
+}
+
 /// The members of a document, as far as they are read.
 #[derive(Drop)]
 struct Held {
@@ -101,8 +144,8 @@ impl<'t> Fields<'t> for Held {
         depth: usize,
     ) -> Result<(), Unread> {
         match key {
-            "pairs" => read_into::<ListOf<Pair>>(&mut self.pairs, alloc, reader, depth),
-            "prices" => read_into::<ListOf<Whole>>(&mut self.prices, alloc, reader, depth),
+            "pairs" => read_into::<Pairs>(&mut self.pairs, alloc, reader, depth),
+            "prices" => read_into::<Prices>(&mut self.prices, alloc, reader, depth),
             "version" => read_into::<Whole>(&mut self.version, alloc, reader, depth),
             _ => pass_member(&mut self.has_others, reader, depth),
         }
@@ -110,7 +153,7 @@ impl<'t> Fields<'t> for Held {
 }
 
 impl Held {
-    /// The certificate, if each member is there and of its kind, and no other is.
+    /// What is kept of the certificate, if each member is there and of its kind, and no other is.
     fn into_certificate(self) -> Option<Certificate>
         ensures { (ms : Members) → AreHeld self ms → AreInOrder ms
             → ReadsDocument (object ms) result }
@@ -141,7 +184,7 @@ impl Held {
     }
 }
 
-/// Documents of certificates.
+/// Documents of certificates, of which no more prices and pairs are kept than show that there are too many.
 pub struct Document;
 
 impl<'t> Kind<'t> for Document {

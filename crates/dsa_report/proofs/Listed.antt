@@ -11,7 +11,7 @@ use Rattle.serde_json.specs.Data.{Data, object, Members}
 use Rattle.serde_json.specs.Find.{as_object, get, get_member}
 use Rattle.dsa_cert.specs.Document.{ReadsDocument}
 use Rattle.dsa_tokens.specs.Said.{Holds, slot_held, slot_is_there, slot_option}
-use Rattle.dsa_tokens.specs.Spelled.{AreInOrder, HasOthers, Reads, is_named, member_names, members_of as members_with, object_of}
+use Rattle.dsa_tokens.specs.Spelled.{AreInOrder, HasOthers, Reads, ReadsKept, is_named, member_names, members_of as members_with}
 use Rattle.dsa_tokens.specs.declared.slots.Slot.{Slot}
 use Rattle.dsa_tokens.specs.declared.slots.Slot.TheVariants.{Missing, Other, Held}
 use Rattle.dsa_tokens.proofs.Kept.{differ}
@@ -157,6 +157,21 @@ pub other_held : {X Y : Type 0} (name : List ℕ) (spelling : Y → Data) (shown
 other_held name spelling shown d Missing none e = absurd (cc)
 other_held name spelling shown d Other (v, is, kind) e = (ap is_some is, λ y at. let same : v ≡ spelling y = cc in kind y same)
 other_held name spelling shown d (Held x) held e = absurd (cc)
+
+-- the same where a part of it is kept
+pub kept_held : {Y : Type 0} (name : List ℕ) (spelling : Y → Data) (kept : Y → Y) (d : Data) (slot : Slot Y) (found : Option Y) → Holds (ReadsKept spelling kept (λ y. y)) (get name d) slot → slot_held slot ≡ Some found
+    → (all : Option Y) × ReadsHeld name spelling (λ y. y) d (Some all) × (found ≡ option_map kept all)
+kept_held name spelling kept d Missing None none e = (None, none, refl)
+kept_held name spelling kept d Missing (Some x) none e = absurd (cc)
+kept_held name spelling kept d Other found held e = absurd (cc)
+kept_held name spelling kept d (Held x) None held e = absurd (cc)
+kept_held name spelling kept d (Held x) (Some y) (v, is, said) e = let same : x ≡ y = cc in (Some said.0, is ∙ ap Some said.1, ap Some (sym same ∙ said.2))
+
+pub other_kept : {Y : Type 0} (name : List ℕ) (spelling : Y → Data) (kept : Y → Y) (d : Data) (slot : Slot Y) → Holds (ReadsKept spelling kept (λ y. y)) (get name d) slot → slot_held slot ≡ None
+    → ReadsHeld {X = Y} name spelling (λ y. y) d None
+other_kept name spelling kept d Missing none e = absurd (cc)
+other_kept name spelling kept d Other (v, is, kind) e = (ap is_some is, λ y at. let same : v ≡ spelling y = cc in kind y same)
+other_kept name spelling kept d (Held x) held e = absurd (cc)
 
 -- ---- rows
 

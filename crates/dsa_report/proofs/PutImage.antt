@@ -1,5 +1,5 @@
 -- A member that is put into an image.
-use Rattle.std.proofs.Common.{◌≡◌, ℕ, Bool, List, codes, Some, true, false, Bor, Vec, Global, refl}
+use Rattle.std.proofs.Common.{◌≡◌, ℕ, List, codes, Some, true, false, Bor, refl}
 use Rattle.serde_json.specs.Data.{Data, Members, put}
 use Rattle.dsa_tokens.specs.Said.{Holds}
 use Rattle.dsa_tokens.specs.Spelled.{is_named}

@@ -1,5 +1,5 @@
 -- A member that is put into settings.
-use Rattle.std.proofs.Common.{◌≡◌, ℕ, Bool, List, codes, Some, true, false, Bor, Vec, Global, refl}
+use Rattle.std.proofs.Common.{◌≡◌, ℕ, List, codes, Some, true, false, refl}
 use Rattle.serde_json.specs.Data.{Data, Members, put}
 use Rattle.dsa_tokens.specs.Said.{Holds}
 use Rattle.dsa_tokens.specs.Spelled.{is_named}

@@ -20,10 +20,10 @@ use Rattle.dsa_cert.proofs.Objects.{are_apart, object_spelled}
 use Rattle.dsa_report.specs.declared.jobs.JobName.{JobName}
 use Rattle.dsa_report.specs.declared.members.Members.{Members}
 use Rattle.dsa_report.specs.Image.{image_shown, image_value}
-use Rattle.dsa_report.specs.Plan.{plan_value}
-use Rattle.dsa_report.specs.Settings.{settings_shown, settings_value}
+use Rattle.dsa_report.specs.Plan.{kept_plan, plan_value}
+use Rattle.dsa_report.specs.Settings.{SettingsText, kept_settings, settings_shown, settings_value}
 use Rattle.dsa_report.specs.Job.{Member, the_certificate, the_name, the_engines, the_image, the_list, the_plan, the_portal, the_settings, the_staging, the_trace, members_of, member_name, is_same, is_among, has, HeldIf, JobMembers, value_if, member_value, job_fields, named_value, HasName, HasMembers}
-use Rattle.dsa_report.specs.Read.{AreRead, IsRead, SlotIsRead, ReadsHeld, ReadsMembers}
+use Rattle.dsa_report.specs.Read.{AreRead, IsRead, KeptIsRead, SlotIsRead, ReadsHeld, ReadsMembers}
 use Rattle.dsa_report.proofs.EachJob.{row}
 use Rattle.dsa_report.proofs.SameJobs.{same_member, one_member, get_among}
 
@@ -133,6 +133,11 @@ is_read true None e = absurd (true≢false (sym e))
 is_read false (Some a) e = absurd (true≢false e)
 is_read false None e = refl
 
+-- of a member of which a part is kept, that part was read
+kept_is_read : {A : Type 0} (there : Bool) (kept : A → A) (held : HeldIf there A) (found all : Option A) → IsRead there held all → found ≡ option_map kept all → KeptIsRead there kept held found
+kept_is_read true kept held found all is e = e ∙ ap (option_map kept) is
+kept_is_read false kept held found all is e = e ∙ ap (option_map kept) is
+
 option_same : {A : Type 0} (o : Option A) → option_map (λ x. x) o ≡ o
 option_same (Some a) = refl
 option_same None = refl
@@ -171,18 +176,19 @@ slot_read false says None Other e (d, is, kind) = absurd (cc)
 slot_read false says None (Held x) e (d, is, kind) = absurd (cc)
 
 -- where all members were read, the value spells the job
-pub members_read : (d : Data) (name : JobName) (m : Members) → HasMembers d name → HasName d name
-    → get (codes "settings") d ≡ Some (settings_value (settings_shown m.settings))
+pub members_read : (d : Data) (name : JobName) (m : Members) (settings : SettingsText) (plan : Option (List (List Bool))) → HasMembers d name → HasName d name
+    → settings_shown m.settings ≡ kept_settings settings → m.plan ≡ option_map kept_plan plan
+    → get (codes "settings") d ≡ Some (settings_value settings)
     → Holds ReadsDocument (get (codes "certificate") d) m.certificate
     → ReadsHeld (codes "engines") whole (λ n. n) d (Some m.engines)
     → ReadsHeld (codes "image") image_value image_shown d (Some m.image)
     → ReadsHeld (codes "list") string (λ text. text.now) d (Some m.list)
-    → ReadsHeld (codes "plan") plan_value (λ plan. plan) d (Some m.plan)
+    → ReadsHeld (codes "plan") plan_value (λ plan. plan) d (Some plan)
     → ReadsHeld (codes "portal") string (λ text. text.now) d (Some m.portal)
     → ReadsHeld (codes "staging") string (λ text. text.now) d (Some m.staging)
     → Holds SaysTrace (get (codes "trace") d) m.trace
     → ReadsMembers d name (Some m)
-members_read d name m names named settings certificate engines image list plan portal staging trace = (j, spelled, are_read)
+members_read d name m settings plan names named kept_settings_are kept_plan_is at_settings certificate engines image list at_plan portal staging trace = (j, spelled, are_read)
   where
     has_certificate : is_some (get (codes "certificate") d) ≡ has name the_certificate
     has_certificate = is_held d name the_certificate names
@@ -196,8 +202,8 @@ members_read d name m names named settings certificate engines image list plan p
     has_list : is_some (option_map (λ text. text.now) m.list) ≡ has name the_list
     has_list = read_there the_list string (λ text. text.now) d name m.list names list
 
-    has_plan : is_some (option_map (λ plan. plan) m.plan) ≡ has name the_plan
-    has_plan = read_there the_plan plan_value (λ plan. plan) d name m.plan names plan
+    has_plan : is_some (option_map (λ plan. plan) plan) ≡ has name the_plan
+    has_plan = read_there the_plan plan_value (λ plan. plan) d name plan names at_plan
 
     has_portal : is_some (option_map (λ text. text.now) m.portal) ≡ has name the_portal
     has_portal = read_there the_portal string (λ text. text.now) d name m.portal names portal
@@ -210,12 +216,12 @@ members_read d name m names named settings certificate engines image list plan p
 
     j : JobMembers name
     j = record {
-      settings = settings_shown m.settings;
+      settings = settings;
       certificate = held_of (has name the_certificate) (get (codes "certificate") d) has_certificate;
       engines = held_of (has name the_engines) (option_map (λ n. n) m.engines) has_engines;
       image = held_of (has name the_image) (option_map image_shown m.image) has_image;
       list = held_of (has name the_list) (option_map (λ text. text.now) m.list) has_list;
-      plan = held_of (has name the_plan) (option_map (λ plan. plan) m.plan) has_plan;
+      plan = held_of (has name the_plan) (option_map (λ plan. plan) plan) has_plan;
       portal = held_of (has name the_portal) (option_map (λ text. text.now) m.portal) has_portal;
       staging = held_of (has name the_staging) (option_map (λ text. text.now) m.staging) has_staging;
       trace = held_of (has name the_trace) (get (codes "trace") d) has_trace;
@@ -227,9 +233,9 @@ members_read d name m names named settings certificate engines image list plan p
     at the_engines there = read_value (has name the_engines) (member_name the_engines) whole (λ n. n) d m.engines has_engines engines there
     at the_image there = read_value (has name the_image) (member_name the_image) image_value image_shown d m.image has_image image there
     at the_list there = read_value (has name the_list) (member_name the_list) string (λ text. text.now) d m.list has_list list there
-    at the_plan there = read_value (has name the_plan) (member_name the_plan) plan_value (λ plan. plan) d m.plan has_plan plan there
+    at the_plan there = read_value (has name the_plan) (member_name the_plan) plan_value (λ plan. plan) d plan has_plan at_plan there
     at the_portal there = read_value (has name the_portal) (member_name the_portal) string (λ text. text.now) d m.portal has_portal portal there
-    at the_settings there = settings
+    at the_settings there = at_settings
     at the_staging there = read_value (has name the_staging) (member_name the_staging) string (λ text. text.now) d m.staging has_staging staging there
     at the_trace there = value_held (has name the_trace) (get (codes "trace") d) has_trace there
 
@@ -241,12 +247,12 @@ members_read d name m names named settings certificate engines image list plan p
 
     are_read : AreRead name j m
     are_read = record {
-      settings = refl;
+      settings = kept_settings_are;
       certificate = slot_read (has name the_certificate) ReadsDocument (get (codes "certificate") d) m.certificate has_certificate certificate;
       engines = subst (IsRead (has name the_engines) j.engines) (option_same m.engines) (is_read (has name the_engines) (option_map (λ n. n) m.engines) has_engines);
       image = is_read (has name the_image) (option_map image_shown m.image) has_image;
       list = is_read (has name the_list) (option_map (λ text. text.now) m.list) has_list;
-      plan = subst (IsRead (has name the_plan) j.plan) (option_same m.plan) (is_read (has name the_plan) (option_map (λ plan. plan) m.plan) has_plan);
+      plan = kept_is_read (has name the_plan) kept_plan j.plan m.plan plan (subst (IsRead (has name the_plan) j.plan) (option_same plan) (is_read (has name the_plan) (option_map (λ plan. plan) plan) has_plan)) kept_plan_is;
       portal = is_read (has name the_portal) (option_map (λ text. text.now) m.portal) has_portal;
       staging = is_read (has name the_staging) (option_map (λ text. text.now) m.staging) has_staging;
       trace = slot_read (has name the_trace) SaysTrace (get (codes "trace") d) m.trace has_trace trace;
@@ -259,13 +265,11 @@ one_held true a b found is is' = same_Some a b (sym is ∙ is')
 one_held false a b found is is' = refl
 
 -- what was read are the members of one job
-one_read : (name : JobName) (j k : JobMembers name) (m : Members) → AreRead name j m → AreRead name k m → j.certificate ≡ k.certificate → j.trace ≡ k.trace → j ≡ k
-one_read name j k m a b certificate trace =
-    let settings = a.settings ∙ sym b.settings in
+one_read : (name : JobName) (j k : JobMembers name) (m : Members) → AreRead name j m → AreRead name k m → j.settings ≡ k.settings → j.certificate ≡ k.certificate → j.plan ≡ k.plan → j.trace ≡ k.trace → j ≡ k
+one_read name j k m a b settings certificate plan trace =
     let engines = one_held (has name the_engines) j.engines k.engines m.engines a.engines b.engines in
     let image = one_held (has name the_image) j.image k.image (option_map image_shown m.image) a.image b.image in
     let list = one_held (has name the_list) j.list k.list (option_map (λ text. text.now) m.list) a.list b.list in
-    let plan = one_held (has name the_plan) j.plan k.plan m.plan a.plan b.plan in
     let portal = one_held (has name the_portal) j.portal k.portal (option_map (λ text. text.now) m.portal) a.portal b.portal in
     let staging = one_held (has name the_staging) j.staging k.staging (option_map (λ text. text.now) m.staging) a.staging b.staging in
     λ i. record {
@@ -280,8 +284,8 @@ one_read name j k m a b certificate trace =
       trace = trace i;
     }
 
-pub spelled_by : (d : Data) (name : JobName) (m : Members) (k : JobMembers name) (read : ReadsMembers d name (Some m)) → AreRead name k m → read.0.certificate ≡ k.certificate → read.0.trace ≡ k.trace → d ≡ named_value name k
-spelled_by d name m k (j, spelled, is) are certificate trace = spelled ∙ ap (named_value name) (one_read name j k m is are certificate trace)
+pub spelled_by : (d : Data) (name : JobName) (m : Members) (k : JobMembers name) (read : ReadsMembers d name (Some m)) → AreRead name k m → read.0.settings ≡ k.settings → read.0.certificate ≡ k.certificate → read.0.plan ≡ k.plan → read.0.trace ≡ k.trace → d ≡ named_value name k
+spelled_by d name m k (j, spelled, is) are settings certificate plan trace = spelled ∙ ap (named_value name) (one_read name j k m is are settings certificate plan trace)
 
 -- what is shown of nothing is nothing
 pub none_shown : {X Y : Type 0} (o : Option X) (f : X → Y) (y : Y) → option_map f o ≡ Some y → o ≡ None → ⊥

@@ -8,7 +8,7 @@ use Rattle.dsa_image.specs.Memory.{Memory}
 use Rattle.dsa_core.specs.declared.event.Event.{Event}
 use Rattle.dsa_plan.specs.Certificate.{contents}
 use Rattle.dsa_plan.specs.Certificate.{Contents}
-use Rattle.dsa_cert.specs.Document.{Documents, document}
+use Rattle.dsa_cert.specs.Document.{Documents, document, kept_contents}
 use Rattle.dsa_tokens.specs.Spelled.{whole, array_of, object_of}
 use Rattle.dsa_calls.specs.declared.fault.PlanFault.{PlanFault}
 use Rattle.dsa_calls.specs.Judge.{Judges}
@@ -20,7 +20,7 @@ use Rattle.dsa_report.specs.declared.jobs.JobName.TheVariants.{Judge, Plan, Chec
 use Rattle.dsa_report.specs.declared.jobs.Job.{Job}
 use Rattle.dsa_report.specs.declared.jobs.Job.TheVariants.{Judge as JudgeList, Plan as PlanList, Check as CheckBytes, Replay as ReplayEvents, Run as RunEngines}
 use Rattle.dsa_report.specs.Settings.{limits_of}
-use Rattle.dsa_report.specs.Plan.{plan_value}
+use Rattle.dsa_report.specs.Plan.{kept_plan, plan_value}
 use Rattle.dsa_report.specs.Image.{HasImage}
 use Rattle.dsa_report.specs.Trace.{IsTrace}
 use Rattle.dsa_report.specs.Job.{the_certificate, the_engines, the_image, the_list, the_plan, the_portal, the_staging, the_trace, has, HeldIf, Held, JobMembers}
@@ -115,6 +115,15 @@ call_of (RunEngines job) = (
     trace = tt;
   },
 )
+
+-- What is kept of a call: of a plan the first groups, and of a certificate the first prices and pairs. What is left out
+-- changes no answer, as the law `kept_is_answered_alike` says.
+abbrev pub kept_call : Call → Call
+kept_call (Judge, a) = (Judge, record a { plan = kept_plan a.plan })
+kept_call (Plan, a) = (Plan, a)
+kept_call (Check, a) = (Check, record a { certificate = kept_contents a.certificate })
+kept_call (Replay, a) = (Replay, a)
+kept_call (Run, a) = (Run, a)
 
 -- if the member is there, what it holds spells the argument
 abbrev pub SpellsIf : {A B : Type 0} (there : Bool) → (A → B → Type 0) → HeldIf there A → HeldIf there B → Type 0

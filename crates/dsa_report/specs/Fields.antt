@@ -8,11 +8,11 @@ use Rattle.dsa_cert.specs.Document.{ReadsDocument}
 use Rattle.dsa_core.specs.declared.event.Event.{Event}
 use Rattle.dsa_tokens.specs.Said.{Holds, slot_is_there}
 use Rattle.dsa_tokens.specs.declared.slots.Slot.TheVariants.{Missing}
-use Rattle.dsa_tokens.specs.Spelled.{AreInOrder, HasOthers, Reads, whole}
+use Rattle.dsa_tokens.specs.Spelled.{AreInOrder, HasOthers, Reads, ReadsKept, whole}
 use Rattle.dsa_report.specs.Image.{image_shown, image_value}
-use Rattle.dsa_report.specs.Job.{Member, the_certificate, the_name, the_engines, the_image, the_list, the_plan, the_portal, the_settings, the_staging, the_trace, member_name}
-use Rattle.dsa_report.specs.Plan.{plan_value}
-use Rattle.dsa_report.specs.Settings.{settings_shown, settings_value}
+use Rattle.dsa_report.specs.Job.{Member, the_certificate, the_name, the_engines, the_image, the_list, the_plan, the_portal, the_settings, the_staging, the_trace}
+use Rattle.dsa_report.specs.Plan.{kept_plan, plan_value}
+use Rattle.dsa_report.specs.Settings.{kept_settings, settings_shown, settings_value}
 use Rattle.dsa_report.specs.Trace.{ReadsTrace}
 use Rattle.dsa_report.specs.declared.fields.Slots.{Slots}
 use Rattle.dsa_report.specs.declared.image.ImageMembers.{ImageMembers}
@@ -34,11 +34,11 @@ SaysImage d found = Reads {X = ImageMembers} image_value image_shown d found
 
 -- of a plan
 abbrev pub SaysPlan : Data → Option (List (List Bool)) → Type 0
-SaysPlan d found = Reads {X = List (List Bool)} plan_value (λ plan. plan) d found
+SaysPlan d found = ReadsKept {X = List (List Bool)} plan_value kept_plan (λ plan. plan) d found
 
 -- of settings
 abbrev pub SaysSettings : Data → Option Numbers → Type 0
-SaysSettings d found = Reads {X = Numbers} settings_value settings_shown d found
+SaysSettings d found = ReadsKept {X = Numbers} settings_value kept_settings settings_shown d found
 
 -- and of a trace
 abbrev pub SaysTrace : Data → Option (Vec Event Global) → Type 0

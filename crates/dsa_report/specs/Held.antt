@@ -4,15 +4,15 @@ use Rattle.std.specs.Borrow.{Bor}
 use Rattle.serde_json.specs.Data.{Data, string, Members}
 use Rattle.serde_json.specs.Find.{get_member}
 use Rattle.dsa_tokens.specs.Said.{Holds}
-use Rattle.dsa_tokens.specs.Spelled.{HasOthers, Reads, whole}
-use Rattle.dsa_report.specs.Settings.{batch_shown, batch_value}
+use Rattle.dsa_tokens.specs.Spelled.{HasOthers, Reads, ReadsKept, whole}
+use Rattle.dsa_report.specs.Settings.{batch_shown, batch_value, kept_batch}
 use Rattle.dsa_report.specs.declared.image.HeldImage.{HeldImage}
 use Rattle.dsa_report.specs.declared.settings.Batch.{Batch}
 use Rattle.dsa_report.specs.declared.settings.Held.{Held}
 
 -- what is said of prices of batches
 abbrev pub SaysBatch : Data → Option Batch → Type 0
-SaysBatch d found = Reads {X = Batch} batch_value batch_shown d found
+SaysBatch d found = ReadsKept {X = Batch} batch_value kept_batch batch_shown d found
 
 -- of a number
 abbrev pub SaysNumber : Data → Option ℕ → Type 0

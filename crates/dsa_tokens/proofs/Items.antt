@@ -1,5 +1,5 @@
 -- Items one after another, and arrays whose items spell values.
-use Rattle.std.proofs.Common.{◌≡◌, ◌≢◌, ◌⊎◌, ℕ, ◌<◌, ◌≤◌, List, [], ◌∷◌, ◌++◌, length, map, Option, Some, None, inl, inr, refl, sym, ap, ◌∙◌, suc, option_map, option_and_then, arith}
+use Rattle.std.proofs.Common.{◌≡◌, ◌≢◌, ℕ, ◌<◌, ◌≤◌, List, [], ◌∷◌, ◌++◌, length, map, Option, Some, None, inl, inr, refl, sym, ap, ◌∙◌, suc, option_map, option_and_then, arith}
 use Rattle.std.specs.List.{AllByRecursion}
 use Rattle.json.specs.Token.{Token}
 use Rattle.json.specs.Json as json
@@ -7,7 +7,7 @@ use Rattle.json.specs.Json.{after_end_array, items, items_step, parse_map, value
 use Rattle.serde_json.specs.Data.{Data, null, boolean, number, string, array, object, Items, no_items, item}
 use Rattle.serde_json.specs.Read.{converted, of_items, of_json}
 use Rattle.serde_json.specs.View.{items_of}
-use Rattle.dsa_tokens.specs.Said.{EachIsRead, SomeIsOther, AreItems, IsArray}
+use Rattle.dsa_tokens.specs.Said.{EachIsRead, SomeIsOther, IsArray}
 use Rattle.dsa_tokens.specs.Spelled.{array_of, whole, Reads, ReadsFit}
 use Rattle.dsa_tokens.specs.Taken.{AreRefused, Takes, TakesItems, TakesNoItems}
 use Rattle.dsa_tokens.specs.declared.unread.Unread.{Unread}

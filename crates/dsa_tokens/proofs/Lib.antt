@@ -3,6 +3,7 @@ pub mod Begun
 pub mod Read
 pub mod Order
 pub mod Items
+pub mod Added
 pub mod Names
 pub mod Kept
 pub mod Decimal

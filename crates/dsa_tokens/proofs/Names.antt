@@ -1,7 +1,7 @@
 -- The names of members, by what is at each name.
 use Rattle.std.proofs.Common.{◌≡◌, ◌≢◌, ℕ, map, Bool, true, false, ◌||◌, List, [], ◌∷◌, Option, Some, None, is_some, IsSome, Ordering, Less, Equal, Greater, is_eq, nat_cmp, true≢false, refl, sym, ap, subst, ◌∙◌}
 use Rattle.std.specs.Cmp.Lexicographic.{slice_cmp}
-use Rattle.std.specs.List.{AllByRecursion, list_any}
+use Rattle.std.specs.List.{AllByRecursion}
 use Rattle.std.specs.List.Sorted.{IsStrictlySortedBy}
 use Rattle.std.specs.Ordering.{match_ordering, ordering_reverse}
 use Rattle.std.specs.Str.{bytes_eq}
@@ -11,7 +11,7 @@ use Rattle.std.proofs.lemmas.Slice.Eq.{bytes_eq-Decides}
 use Rattle.serde_json.specs.Data.{Data, object, Members, no_members, member}
 use Rattle.serde_json.specs.Find.{get_member}
 use Rattle.dsa_tokens.specs.Said.{Holds, slot_option}
-use Rattle.dsa_tokens.specs.Spelled.{AreInOrder, HasOthers, Reads, is_named, member_names, members_of, object_of}
+use Rattle.dsa_tokens.specs.Spelled.{AreInOrder, HasOthers, Reads, ReadsKept, is_named, member_names, members_of, object_of}
 use Rattle.dsa_tokens.specs.declared.slots.Slot.{Slot}
 use Rattle.dsa_tokens.specs.declared.slots.Slot.TheVariants.{Missing, Other, Held}
 use Rattle.dsa_tokens.proofs.Order.{IsBefore, before_all}
@@ -131,3 +131,10 @@ pub read_option : {X Y : Type 0} (spelling : Y → Data) (shown : X → Y) (foun
 read_option spelling shown found Missing x none e = absurd (cc)
 read_option spelling shown found Other x held e = absurd (cc)
 read_option spelling shown found (Held y) x (v, is, kind) e = let same : y ≡ x = cc in is ∙ ap Some (kind ∙ ap (λ z. spelling (shown z)) same)
+
+-- the same where a part of what is there is kept
+pub kept_option : {X Y : Type 0} (spelling : Y → Data) (kept : Y → Y) (shown : X → Y) (found : Option Data) (slot : Slot X) (x : X) → Holds (ReadsKept spelling kept shown) found slot → Some x ≡ slot_option slot
+    → (y : Y) × (found ≡ Some (spelling y)) × (shown x ≡ kept y)
+kept_option spelling kept shown found Missing x none e = absurd (cc)
+kept_option spelling kept shown found Other x held e = absurd (cc)
+kept_option spelling kept shown found (Held z) x (v, is, said) e = let same : x ≡ z = cc in (said.0, is ∙ ap Some said.1, ap shown same ∙ said.2)

@@ -1,39 +1,13 @@
 -- What is read of items and members, one after another.
-use Rattle.std.proofs.Common.{◌≡◌, ◌⊎◌, inl, inr, ℕ, ◌-◌, ◌<◌, true, List, [], ◌∷◌, ◌++◌, length, Option, Some, None, Result, Ok, Err, refl, sym, ap, subst, arith}
+use Rattle.std.proofs.Common.{◌≡◌, ℕ, ◌-◌, ◌<◌, true, List, ◌∷◌, length, Result, Ok, Err, refl, ap, arith}
 use Rattle.json.specs.Token.{Token, begin_array, begin_object}
-use Rattle.serde_json.specs.Data.{Data, null, boolean, number, string, array, object, Items, no_items, item, Members, no_members}
-use Rattle.dsa_tokens.specs.Said.{EachIsRead, SomeIsOther, AreItems, IsArray, Fills}
+use Rattle.serde_json.specs.Data.{Data, null, boolean, number, string, array, object, Items, Members, no_members}
+use Rattle.dsa_tokens.specs.Said.{Fills}
 use Rattle.dsa_tokens.specs.Spelled.{AreInOrder}
 use Rattle.dsa_tokens.specs.Taken.{Answers, AnswersItems, IsRefused, AreRefused, TakesNone, TakesNoItems, TakesNoMembers}
 use Rattle.dsa_tokens.specs.declared.unread.Unread.{Unread}
 use Rattle.dsa_tokens.specs.declared.unread.Unread.TheVariants.{Json, Memory}
 use Rattle.dsa_tokens.proofs.Grammar.{takes_array, refuses_array, refuses_object}
-
--- these were read of the first of all items, and the others follow
-abbrev pub Begin : {A : Type 0} → (Data → Option A → Type 0) → Items → List A → Items → Type 0
-Begin says all [] ds = all ≡ ds
-Begin says no_items (x ∷ xs) ds = ⊥
-Begin says (item d all) (x ∷ xs) ds = says d (Some x) × Begin says all xs ds
-
-module _ {A : Type 0} (says : Data → Option A → Type 0) where
-  pub begin_push : (all : Items) (xs : List A) (d : Data) (ds : Items) (x : A) → Begin says all xs (item d ds) → says d (Some x) → Begin says all (xs ++ x ∷ []) ds
-  begin_push no_items [] d ds x all said = absurd (cc)
-  begin_push (item e rest) [] d ds x all said =
-      let same : e ≡ d = cc in (subst (λ (v : Data). says v (Some x)) (sym same) said, cc)
-  begin_push no_items (y ∷ ys) d ds x all said = absurd all
-  begin_push (item e rest) (y ∷ ys) d ds x all said = (all.0, begin_push rest ys d ds x all.1 said)
-
-  pub begin_end : (all : Items) (xs : List A) → Begin says all xs no_items → EachIsRead says all xs
-  begin_end no_items [] all = tt
-  begin_end (item e rest) [] all = absurd (cc)
-  begin_end no_items (y ∷ ys) all = absurd all
-  begin_end (item e rest) (y ∷ ys) all = (all.0, begin_end rest ys all.1)
-
-  pub begin_other : (all : Items) (xs : List A) (d : Data) (ds : Items) → Begin says all xs (item d ds) → says d None → SomeIsOther says all
-  begin_other no_items [] d ds all other = absurd (cc)
-  begin_other (item e rest) [] d ds all other = let same : e ≡ d = cc in inl (subst (λ (v : Data). says v None) (sym same) other)
-  begin_other no_items (y ∷ ys) d ds all other = absurd all
-  begin_other (item e rest) (y ∷ ys) d ds all other = inr (begin_other rest ys d ds all.1 other)
 
 -- ---- causes
 
@@ -58,14 +32,6 @@ items_none depth start Json none = none
 items_none depth start Memory none = tt
 
 -- ---- arrays and objects
-
--- what is read of an array is what is read of its items
-pub listed : {A X : Type 0} (says : Data → Option X → Type 0) (list : A → Option (List X)) (depth : ℕ) (old mid new : List Token) (r : Result A Unread) → old ≡ begin_array ∷ mid → 0 < depth
-    → AnswersItems (λ ds a. AreItems says ds (list a)) (depth - 1) mid new r → Answers (λ d a. IsArray says d (list a)) depth old new r
-listed says list depth old mid new (Ok a) is deep items =
-    (array items.0, rw is (takes_array depth mid items.0 new deep items.1), items.2, omega (arith, ap length is, items.3))
-listed says list depth old mid new (Err Json) is deep none = rw is (refuses_array depth mid deep none)
-listed says list depth old mid new (Err Memory) is deep none = tt
 
 -- an object is refused if its members are
 pub object_refused : (depth : ℕ) (old mid : List Token) (cause : Unread) → old ≡ begin_object ∷ mid → 0 < depth → (cause ≡ Json → TakesNoMembers (depth - 1) mid no_members) → IsRefused depth old cause

@@ -1,5 +1,5 @@
 -- What is said of values: of arrays by what is said of their items, and of what an object has at a name.
-use Rattle.std.specs.Prelude.{◌≡◌, ◌⊎◌, ⊤, Bool, true, false, List, [], ◌∷◌, Option, Some, None, MatchOption}
+use Rattle.std.specs.Prelude.{◌≡◌, ◌⊎◌, ℕ, ◌-◌, ⊤, Bool, true, false, List, [], ◌∷◌, ◌++◌, length, take, Option, Some, None, MatchOption, option_map}
 use Rattle.serde_json.specs.Data.{Data, Items, no_items, item, Members, no_members}
 use Rattle.serde_json.specs.Find.{as_array, as_object}
 use Rattle.dsa_tokens.specs.Spelled.{AreInOrder}
@@ -26,6 +26,33 @@ AreItems says ds None = SomeIsOther says ds
 -- what was read of an array, or that it is none, or has an item of another kind
 abbrev pub IsArray : {A : Type 0} → (Data → Option A → Type 0) → Data → Option (List A) → Type 0
 IsArray says d found = MatchOption (as_array d) (found ≡ None) (λ ds. AreItems says ds found)
+
+-- ---- at most so many of them
+
+-- the first so many, if there is a bound
+abbrev pub up_to : {A : Type 0} → Option ℕ → List A → List A
+up_to None xs = xs
+up_to (Some most) xs = take most xs
+
+-- how many more there is room for beside so many
+abbrev pub room : Option ℕ → ℕ → Option ℕ
+room None count = None
+room (Some most) count = Some (most - count)
+
+-- what was read of the items was added, as far as there was room for it, or one of them is of another kind
+abbrev pub AddsItems : {A : Type 0} → (Data → Option A → Type 0) → Option ℕ → List A → List A → Items → Bool → Type 0
+AddsItems {A} says most old new ds true = (xs : List A) × EachIsRead says ds xs × (new ≡ old ++ up_to (room most (length old)) xs)
+AddsItems says most old new ds false = SomeIsOther says ds
+
+-- the same of the items of an array, or the value is none
+abbrev pub AddsArray : {A : Type 0} → (Data → Option A → Type 0) → Option ℕ → List A → List A → Data → Bool → Type 0
+AddsArray says most old new d each = MatchOption (as_array d) (each ≡ false) (λ ds. AddsItems says most old new ds each)
+
+-- what is kept of what was read of an array, or that it is none, or has an item of another kind
+abbrev pub IsArrayUpTo : {A : Type 0} → Option ℕ → (Data → Option A → Type 0) → Data → Option (List A) → Type 0
+IsArrayUpTo {A} most says d kept = (found : Option (List A)) × IsArray says d found × (kept ≡ option_map (up_to most) found)
+
+-- ---- objects
 
 -- what an object has at a name: nothing, a value of another kind, or one of which this was read
 abbrev pub Holds : {A : Type 0} → (Data → Option A → Type 0) → Option Data → Slot A → Type 0

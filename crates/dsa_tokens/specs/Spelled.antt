@@ -37,7 +37,12 @@ abbrev pub Reads : {X Y : Type 0} → (Y → Data) → (X → Y) → Data → Op
 Reads {X} {Y} spelling shown d None = (y : Y) → d ≢ spelling y
 Reads spelling shown d (Some x) = d ≡ spelling (shown x)
 
--- the same for what the value has at a name
+-- the same of a reader that keeps a part of what the value spells
+abbrev pub ReadsKept : {X Y : Type 0} → (Y → Data) → (Y → Y) → (X → Y) → Data → Option X → Type 0
+ReadsKept {X} {Y} spelling kept shown d None = (y : Y) → d ≢ spelling y
+ReadsKept {X} {Y} spelling kept shown d (Some x) = (y : Y) × (d ≡ spelling y) × (shown x ≡ kept y)
+
+-- the same as `Reads` for what the value has at a name
 abbrev pub ReadsAt : {X Y : Type 0} → List ℕ → (Y → Data) → (X → Y) → Data → Option X → Type 0
 ReadsAt {X} {Y} name spelling shown d None = (y : Y) → get name d ≢ Some (spelling y)
 ReadsAt name spelling shown d (Some x) = get name d ≡ Some (spelling (shown x))

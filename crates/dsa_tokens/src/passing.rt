@@ -12,7 +12,7 @@ use json::{Reader, Token};
 
 /// The next token.
 #[inline(always)]
-pub(crate) fn next<'t>(reader: &mut Reader<'t>) -> Result<Token<'t>, Unread>
+pub fn next<'t>(reader: &mut Reader<'t>) -> Result<Token<'t>, Unread>
     ensures ok { IfOk result (λ token. reader.old ≡ token_of token ∷ reader.new) }
     ensures err { IfErr result (λ cause. (cause ≡ Unread.Json)
         × ((depth : ℕ) → TakesNone depth reader.old)) }

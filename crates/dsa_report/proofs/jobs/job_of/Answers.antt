@@ -7,6 +7,14 @@ use Rattle.dsa_report.proofs.jobs.job_of.Goals as goal
 pub returns-in-None : goal.returns-in-None
 returns-in-None c = λ d is. inr (name_refused d (is_an_object d is.0 is.1) (c.in-None.ensures d is))
 
+pub returns-in_ok-judge_of-in-Some-Judge : goal.returns-in_ok-judge_of-in-Some-Judge
+returns-in_ok-judge_of-in-Some-Judge c = λ d is.
+    let named = rw c.in-Some-Judge.field-0-is at c.in-Some-Judge.ensures in c.in_ok-judge_of-in-Some-Judge.ensures d is (named d is)
+
+pub returns-in_ok-check_of-in-Some-Check : goal.returns-in_ok-check_of-in-Some-Check
+returns-in_ok-check_of-in-Some-Check c = λ d is.
+    let named = rw c.in-Some-Check.field-0-is at c.in-Some-Check.ensures in c.in_ok-check_of-in-Some-Check.ensures d is (named d is)
+
 pub returns-in_err-judge_of-in-Some-Judge : goal.returns-in_err-judge_of-in-Some-Judge
 returns-in_err-judge_of-in-Some-Judge c = λ d is.
     let e = err_from_is_err_and c.from_residual.result c.from_residual.ensures.1 in

@@ -1,4 +1,4 @@
-use Rattle.std.proofs.Common.{inr, refl, sym, ap, arith, ◌∙◌}
+use Rattle.std.proofs.Common.{inr, sym, ap, arith, ◌∙◌}
 use Rattle.serde_json.specs.Read.{read}
 use Rattle.dsa_report.specs.Read.{IsText, has_cause}
 use Rattle.dsa_report.proofs.Outcomes.{read_value}

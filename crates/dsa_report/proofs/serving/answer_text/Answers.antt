@@ -1,4 +1,3 @@
-use Rattle.std.proofs.Common.{Ok, Err}
 use Rattle.std.proofs.lemmas.Result.{err_from_is_err_and}
 use Rattle.dsa_report.specs.Answer.{IsJobOutcome}
 use Rattle.dsa_report.specs.Calls.{AnswersRead}

@@ -1,6 +1,5 @@
-use Rattle.std.proofs.Common.{◌≡◌, Some, None, refl, arith}
+use Rattle.std.proofs.Common.{refl, arith}
 use Rattle.std.proofs.lemmas.Result.{err_from_is_err_and}
-use Rattle.json.specs.Reads.{token_of}
 use Rattle.serde_json.specs.Data.{null, array}
 use Rattle.dsa_tokens.proofs.Grammar.{refuses_deep_array, takes_array, takes_null}
 use Rattle.dsa_tokens.proofs.Read.{array_refused}

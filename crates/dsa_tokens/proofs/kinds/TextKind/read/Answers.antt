@@ -1,5 +1,5 @@
 use Rattle.std.proofs.Common.{refl, sym, ◌∙◌, arith}
-use Rattle.serde_json.specs.Data.{boolean, string}
+use Rattle.serde_json.specs.Data.{string}
 use Rattle.dsa_tokens.proofs.Grammar.{takes_string}
 use Rattle.dsa_tokens.proofs.Begun.{no_text, is_string}
 use Rattle.dsa_tokens.proofs.kinds.TextKind.read.Goals as goal

@@ -1,5 +1,5 @@
 use Rattle.std.proofs.Common.{refl, sym, ◌∙◌, arith}
-use Rattle.serde_json.specs.Data.{boolean, string}
+use Rattle.serde_json.specs.Data.{boolean}
 use Rattle.dsa_tokens.proofs.Grammar.{takes_boolean}
 use Rattle.dsa_tokens.proofs.Begun.{no_truth, is_bool}
 use Rattle.dsa_tokens.proofs.kinds.TruthKind.read.Goals as goal

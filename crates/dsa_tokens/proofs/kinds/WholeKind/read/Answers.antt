@@ -1,4 +1,4 @@
-use Rattle.std.proofs.Common.{refl, sym, ◌∙◌, arith}
+use Rattle.std.proofs.Common.{sym, ◌∙◌, arith}
 use Rattle.serde_json.specs.Data.{number}
 use Rattle.serde_json.specs.Find.{as_u64}
 use Rattle.serde_json.specs.Read.{number_of}

@@ -3,6 +3,7 @@ records that change in flight, waits that threads lack, programs that submit not
 The programs are tests/trace/unseen.c and tests/trace/stages.c. It uses the rights of root and watchpoints where they
 are, and says so where they aren't. The words are names of parts."""
 
+import json
 import os
 import re
 import signal
@@ -34,7 +35,7 @@ def none(what, end):
 def lost():
     """A recording that breaks off ends the audit with status 125, says so also where the program's standard error is
     sent away, and has a mark."""
-    ways = {"files": "Too many open files"}
+    ways = {"files": "Too many open files", "size": "File too large"}
     if os.getuid() == 0:
         ways |= {"chroot": "No such file or directory", "user": "Permission denied"}
     else:
@@ -299,12 +300,32 @@ def long_runs():
     expect(parts("--seed", 1) == found, "another run of the same seed has other parts")
     expect(parts("--seed", 2) != found, "another seed has the same parts")
     expect(parts("--seed", 4) == 79 * "1", "a fast device does not do all at once")
-    for how in (["--delay", 100], ["--watch", 5], ["--seed", 4, "--delay", 100]):
-        expect(parts(*how, count=44) == 43 * "0", f"with {how} some are done at once")
+    with tempfile.TemporaryDirectory(dir=WORK) as folder:
+        for how in (["--delay", 100], ["--watch", 5], ["--seed", 4, "--delay", 100], ["--out", folder]):
+            expect(parts(*how, count=44) == 43 * "0", f"with {how} some are done at once")
+    for seed in (1, 2):
+        told(f"a wait that is missing late, seed {seed}", audited("--seed", seed, *unseen("after", 12000)), 1,
+             "error: missing wait, read after write")
+
+
+def at_once():
+    """If each submission was done at once, an audit says that no missing wait was looked for: also of a run that was
+    kept, and not if another seed has looked."""
+    said = "dsa_trace: each submission was done at once, so no missing wait was looked for"
+    with tempfile.TemporaryDirectory(dir=WORK) as folder:
+        for how in (["--order", "fifo"], ["--order", "members"], ["--seed", 4], ["--seed", 4, "--out", folder]):
+            told(f"all at once, {how}", audited(*how, *unseen("gap", 0)), 0, said)
+        told("a kept run of these", traced("--report", folder, env=KNOWN), 0, said)
+    for how in ([], ["--seed", 4, "--delay", 100], ["--seed", 4, "--watch", 5], ["--seed", 4, "--seeds", 2]):
+        end = audited(*how, *unseen("right"))
+        expect(end.returncode == 0 and said not in end.stderr, f"with {how} is said: {end.stderr}")
+    for seed, right in ((4, True), (5, None)):
+        runs = json.loads(audited("--json", "--seed", seed, *unseen("right")).stdout)
+        expect(runs.get("at_once") == right, f"as JSON, seed {seed}: {sorted(runs)}")
 
 
 PARTS = [lost, full_folder, counted, in_parts, cut, background, waited_for, lists, records, threads, empty, paces]
-PARTS += [long_runs]
+PARTS += [long_runs, at_once]
 
 
 def main(words):

@@ -147,6 +147,8 @@ static int audit_process(struct audited *a, const char *base)
     findings_use(&own, &all->stale);
     const bool has_own = findings_errors(&own, &all->accepted, &a->keys);
     a->recorded += g.submissions;
+    all->processes += g.submissions > 0;
+    all->at_once += g.submissions > 0 && g.is_at_once;
     judged_begin(&j, answer);
     j.report_count = found <= 1;
     if (found == 1)
@@ -332,6 +334,9 @@ static void say_empty(const struct audits *a)
           stderr);
 }
 
+/// Whether no audit could see that a wait is missing.
+static bool is_at_once(const struct audits *a) { return a->processes && a->at_once == a->processes; }
+
 /// Prints what was asked for of all runs: the keys of errors, the reports that are kept, or the last, and the accepted
 /// lines that fit nothing. Answers whether these are errors.
 static bool print(const struct audits *a, bool has_failed)
@@ -340,7 +345,8 @@ static bool print(const struct audits *a, bool has_failed)
     const bool is_json = a->options.is_json;
     for (size_t i = 0; a->options.writes_keys && i < a->keys.count; i++)
         puts(a->keys.all[i]);
-    fputs(is_json ? "{\"runs\":[" : "", stdout);
+    if (is_json)
+        fputs(is_at_once(a) ? "{\"at_once\":true,\"runs\":[" : "{\"runs\":[", stdout);
     if (a->is_unproved && !is_json && !a->options.writes_keys)
         printf("by a dsa_text that was built without proofs (%s):\n", a->dsa_text);
     if (!a->options.writes_keys)
@@ -364,6 +370,10 @@ int audits_end(struct audits *a, const struct options *o, int program)
     const bool has_failed = program != 0;
     if (a->empty)
         say_empty(a);
+    if (is_at_once(a))
+        fputs("dsa_trace: each submission was done at once, so no missing wait was looked for; that is so with --order "
+              "fifo or members, and without --delay and --watch under seeds 4, 8, ..\n",
+              stderr);
     if (a->empty < a->runs && a->runs > 1)
         say_which(a, o, has_failed);
     if (print(a, has_failed) && !a->status)

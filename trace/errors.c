@@ -1,5 +1,6 @@
 /* What the library has noted while the program ran, since no recording shows it: completion records that were not zero
- * or were changed, and lists of batches that were. Each line of NAME.errors is one (bindings/package/dsa_trace.1). */
+ * or were changed, lists of batches that were, and that each submission was done at once. Each line of NAME.errors is
+ * one (bindings/package/dsa_trace.1). */
 #include <errno.h>
 #include <inttypes.h>
 #include <linux/idxd.h>
@@ -62,9 +63,13 @@ static bool add(const char *line, const struct gathered *g, struct findings *to)
     return true;
 }
 
-/// A line: that the recording breaks off, or an error.
+/// A line: that each submission was done at once, that the recording breaks off, or an error.
 static bool take(const char *line, struct gathered *g, struct findings *to)
 {
+    if (strcmp(line, "A\n") == 0) {
+        g->is_at_once = true;
+        return true;
+    }
     if (strncmp(line, "B ", 2))
         return add(line, g, to);
     snprintf(g->marked, sizeof g->marked, "%.*s", (int)strcspn(line + 2, "\n"), line + 2);

@@ -31,7 +31,7 @@ struct options {
     const char *queues[MOST_QUEUES];
     int queue_count;
     bool has_namespace, audits, waits, watches;
-    bool has_delay;     /* one is given, so no seed chooses a pace */
+    bool has_pace;      /* --delay or --watch is given, so no seed chooses one */
     char **program;     /* its name and arguments */
     char **words;       /* all words of the command line */
 };
@@ -171,6 +171,7 @@ struct gathered {
     uint64_t submissions;
     uint32_t *first;
     const char *why;
+    bool is_at_once;
 };
 void gather(const char *records, const char *base, struct gathered *g, struct findings *changed);
 void gather_end(struct gathered *g);
@@ -203,6 +204,7 @@ struct audits {
     struct symbols symbols;
     bool shows_places, keeps; /* the recordings of runs are kept */
     unsigned long long runs, faulty, partial, empty, kept;
+    unsigned long long processes, at_once; /* those that submit, and of them those whose submissions are done at once */
     uint64_t seed;
     int status;
     bool has_keyless; /* a report is kept whose errors have no keys, as what --deny names */

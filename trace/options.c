@@ -160,7 +160,7 @@ static void take_value(struct options *o, const char *name, const char *value)
         refuse("there is no such option", name);
     if (!value || !*value)
         refuse("a value comes after this option", name);
-    o->has_delay |= strcmp(name, "--delay") == 0;
+    o->has_pace |= strcmp(name, "--delay") == 0 || strcmp(name, "--watch") == 0;
     o->audit.is_there |= is_of_audit;
     if (number)
         *number = number_of(name, value);

@@ -19,8 +19,9 @@ static __thread volatile int postponed; /* a signal that came meanwhile, or 0 */
 
 bool order_is_async(void) { return settings.order >= ORDER_DATA; }
 
-/// In a long run most submissions are done at once, as by a fast device: else each that a program waits for would take
-/// the delay. A part of the run is drawn by the number and the seed alone, so it is the same each time.
+/// In a long run that is not recorded most submissions are done at once, as by a fast device: else each that a program
+/// waits for would take the delay. A part of the run is drawn by the number and the seed alone, so it is the same each
+/// time.
 static bool is_drawn(uint64_t number)
 {
     enum { PART = 256, ONE_IN = 16 };

@@ -158,6 +158,35 @@ static void add_to_index(const char *name)
     syscall(SYS_close, fd);
 }
 
+static void add_line(struct grown *g, const char *line, size_t length)
+{
+    uint8_t *to = grown_room(g, length);
+    if (!to) {
+        give_up("the events can't grow");
+        return;
+    }
+    memcpy(to, line, length);
+    g->used += length;
+}
+
+/// A line of NAME.PID.errors. The first makes the file.
+static void add_error(const char *line, size_t length)
+{
+    static char path[PATH_MAX];
+    snprintf(path, sizeof path, "%s.errors", recording.base);
+    if (recording.errors.path[0] || grown_open(&recording.errors, path, 2 * BLOCK))
+        add_line(&recording.errors, line, length);
+    else
+        give_up(path);
+}
+
+/// Notes that each submission is done at once: then no audit sees that a wait is missing.
+static void note_pace(void)
+{
+    if (settings.order < ORDER_DATA)
+        add_error("A\n", 2);
+}
+
 /// Opens the files of this process. A process that has replaced its program gets another number after its own.
 static bool open_files(void)
 {
@@ -177,6 +206,7 @@ static bool open_files(void)
     if (!open_part())
         return false;
     add_to_index(name);
+    note_pace();
     return !recording.is_off;
 }
 
@@ -206,17 +236,6 @@ static char *put_number(char *to, uint64_t number)
 
 static char *put_pair(char *to, const char *text, uint64_t number) { return put_number(put_text(to, text), number); }
 
-static void add_line(struct grown *g, const char *line, size_t length)
-{
-    uint8_t *to = grown_room(g, length);
-    if (!to) {
-        give_up("the events can't grow");
-        return;
-    }
-    memcpy(to, line, length);
-    g->used += length;
-}
-
 /// An event: a letter, the submission, and a member and a status where there are some.
 void record_event(char letter, uint64_t number, int64_t member, int64_t status)
 {
@@ -233,25 +252,18 @@ void record_event(char letter, uint64_t number, int64_t member, int64_t status)
     add_line(&recording.events, line, to - line);
 }
 
-/// An error of the program that no later audit could see: a letter, the submission, a member or -1, and an address. The
-/// first makes the file.
+/// An error of the program that no later audit could see: a letter, the submission, a member or -1, and an address.
 void record_error(char letter, uint64_t number, int64_t member, uint64_t address)
 {
-    static char path[PATH_MAX];
     char line[LONGEST_LINE], *to = line;
     if (!record_is_on())
         return;
-    snprintf(path, sizeof path, "%s.errors", recording.base);
-    if (!recording.errors.path[0] && !grown_open(&recording.errors, path, 2 * BLOCK)) {
-        give_up(path);
-        return;
-    }
     *to++ = letter;
     to = put_pair(to, " ", number);
     to = member < 0 ? put_text(to, " -") : put_pair(to, " ", member);
     to = put_pair(to, " ", address);
     *to++ = '\n';
-    add_line(&recording.errors, line, to - line);
+    add_error(line, to - line);
 }
 
 /// A line of NAME.PID.stacks. There are few, so each is written at once.

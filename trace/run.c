@@ -94,12 +94,13 @@ static void preload(void)
     free(all);
 }
 
-/// The pace of a seed, unless --delay is given: of four in a row one does each submission at once, as a fast device
-/// does, and one takes its time. So the order of a seed stays as repeatable as it is.
-static void choose_pace(struct settings *s)
+/// The pace of a seed, unless --delay or --watch is given: of four in a row one does each submission at once, as a fast
+/// device does, and one takes its time. So the order of a seed stays as repeatable as it is. Of a run that is recorded
+/// all is drawn, since no audit sees that a wait is missing for what was done at once.
+static void choose_pace(struct settings *s, bool is_recorded)
 {
     enum { FAST = 0, SLOW = 3, SLOWER = 4, LONG = 10000 };
-    s->drawn = LONG;
+    s->drawn = is_recorded ? 0 : LONG;
     if (s->seed % 4 == FAST && s->order > ORDER_MEMBERS)
         s->order = ORDER_MEMBERS;
     if (s->seed % 4 == SLOW)
@@ -122,8 +123,8 @@ static void become(const struct options *o, const char *folder, const char *boar
     char tree[PATH_MAX];
     bool is_inside = o->has_namespace;
     s.seed = run->seed;
-    if (!o->has_delay)
-        choose_pace(&s);
+    if (!o->has_pace)
+        choose_pace(&s, run->records);
     make_folders(joined(tree, folder, "tree"));
     if (is_inside && !namespace_enter()) {
         fprintf(stderr, "dsa_trace: no namespace of mounts (%s), so file names are turned in the library\n",

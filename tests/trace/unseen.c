@@ -1,11 +1,12 @@
 /* What an audit may not pass over, by words:
- *   files, chroot, user, disk  the recording breaks off, then a wait is missing
+ *   files, chroot, user, disk, size  the recording breaks off, then a wait is missing
  *   late                  a thread submits while the process ends
  *   background, stays     a process in the background lacks a wait, and ends or stays
  *   list, gone            the list of a batch is filled anew too early, or unmapped
  *   record, stale         a record is cleared after the submission, or never
  *   long COUNT            which of so many moves are done at once
  *   gap US                a missing wait, with so many microseconds between the submissions
+ *   after COUNT           a missing wait after so many moves that are waited for
  *   parts                 a missing wait between two parts of the recording
  *   asks                  does without the device if CPUID says so
  * and what is right: right; reuse (a list is filled anew after its members), shared (a record of two members with a
@@ -17,9 +18,10 @@
 #include <pthread.h>
 #include <signal.h>
 #include <stdbool.h>
+#include <sys/resource.h>
 #include <time.h>
 
-enum { SIZE = 64, HUNG = 7, MANY = 6000 };
+enum { SIZE = 64, HUNG = 7, MANY = 6000, LONGEST = 300000 };
 
 static uint8_t first[SIZE] = "hello", second[SIZE], third[SIZE];
 static volatile completion *records;
@@ -59,6 +61,8 @@ static int lose(const char *how)
             ;
     if (strcmp(how, "chroot") == 0 && chroot("/mnt"))
         perror("chroot");
+    if (strcmp(how, "size") == 0 && setrlimit(RLIMIT_FSIZE, &(struct rlimit){LONGEST, LONGEST}))
+        perror("setrlimit");
     if (strcmp(how, "user") == 0 && (setgroups(0, NULL) || setgid(65534) || setuid(65534)))
         perror("setuid");
     for (int i = 0; i < MANY; i++)
@@ -267,6 +271,17 @@ static int submit_long(int count)
     return 0;
 }
 
+/* Waits for each of so many moves, and then lacks a wait. */
+static int lack_a_wait_after(int count)
+{
+    void *at = portal();
+    const descriptor d = move(first, second, SIZE, &records[0]);
+    for (int i = 0; i < count; i++)
+        submit_and_await(at, &d);
+    lack_a_wait(at);
+    return 0;
+}
+
 /* Computes for so many microseconds before a submission that lacks a wait. */
 static int submit_after(double gap)
 {
@@ -320,6 +335,8 @@ int main(int argc, char **argv)
         return clear_late(*what == 'r');
     if (strcmp(what, "long") == 0)
         return submit_long(argc > 2 ? atoi(argv[2]) : 10000);
+    if (strcmp(what, "after") == 0)
+        return lack_a_wait_after(argc > 2 ? atoi(argv[2]) : 12000);
     if (strcmp(what, "gap") == 0)
         return submit_after(argc > 2 ? atof(argv[2]) : 200);
     return lose(what);

@@ -4,6 +4,7 @@ keys of what is missing, written and accepted. Examples by hand. Events that do 
 number is how many random recordings are judged."""
 
 import json
+import os
 import random
 import re
 import struct
@@ -424,6 +425,22 @@ def many():
     common.expect(right, f"apart moves: status {status} after {took:.0f} s, {out[-300:]} {err}")
 
 
+def in_flight():
+    """5,000 moves to one place, of which none is known to have ended, so that each two lack a wait: with the one key of
+    all these accepted no error is left. More than six seconds of the processor are a fault."""
+    count = range(5000)
+    recording = b"".join(entry(MOVE, 0, 0, 0x10000 + 64 * k, 0x1000, 8) for k in count)
+    events = "".join(f"S {k} wq0.0 op 3 members 0\n" for k in count)
+    key = "missing wait, write after write; lone: move, 8 bytes; lone: move, 8 bytes"
+    for known, status in ([key], 0), ([key.replace("after write", "after read")], 1):
+        start = os.times().children_user
+        got, out, err = audited(recording, events, known=known)
+        took = os.times().children_user - start
+        wanted = "\n4999 missing waits" in out and (f"fits nothing: {known[0]}\n" in out) == bool(status)
+        common.expect((got, wanted) == (status, True), f"in flight: status {got}, {out[-300:]} {err}")
+        common.expect(took < 6, f"in flight: {took:.1f} s")
+
+
 def refusals():
     """Events that are none, or do not fit."""
     move = entry(MOVE, first=0x1000, second=0x2000, size=64)
@@ -453,7 +470,7 @@ def main(words):
     TEXT = [program("dsa_text")]
     numbers = [int(word) for word in words if word.isdigit()]
     COUNT = numbers[-1] if numbers else COUNT
-    parts = [by_hand, accepted, drains, touched, many, refusals, brute_force]
+    parts = [by_hand, accepted, drains, touched, many, in_flight, refusals, brute_force]
     for part in named(parts, [it for it in words if not it.isdigit()]):
         part()
 

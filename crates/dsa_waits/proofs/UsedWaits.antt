@@ -1,5 +1,5 @@
 -- The accepted keys of missing waits.
-use Rattle.std.proofs.Common.{◌≡◌, ℕ, ◌+◌, ◌<◌, ◌≤◌, ◌↔◌, ◌⊎◌, inl, inr, true, false, List, length, get_or, sym, ap, subst, ◌∙◌, arith}
+use Rattle.std.proofs.Common.{◌≡◌, ℕ, ◌+◌, ◌<◌, ◌≤◌, ◌↔◌, ◌⊎◌, inl, inr, true, false, List, length, get_or, sym, subst, ◌∙◌, arith}
 use Rattle.std.specs.List.{Contains}
 use Rattle.std.proofs.lemmas.Bool.{cases_eq, cases_lt}
 use Rattle.std.proofs.lemmas.List.{get_or_default}
@@ -10,12 +10,11 @@ use Rattle.dsa_recording.specs.declared.accepted.Accepted.{Accepted}
 use Rattle.dsa_recording.specs.declared.stream.Submission.{Submission}
 use Rattle.dsa_recording.specs.Pairs.{has_key}
 use Rattle.dsa_recording.specs.Uses.{AddsKeys}
-use Rattle.dsa_recording.proofs.Using.{adds_both, adds_none, adds_same}
+use Rattle.dsa_recording.proofs.Using.{adds_both, adds_none}
 use Rattle.dsa_waits.specs.declared.course.Course.{Course}
 use Rattle.dsa_waits.specs.Keys.{AreUsedKeys, IsWaitKey}
 use Rattle.dsa_waits.specs.Steps.{AreOutstanding, HasSubmission, IsUsedPair, UsesBelow, UsesBetween, UsesFirst}
 use Rattle.dsa_waits.specs.Waits.{IsCourse, IsMissingWait, IsOutstanding, submission_of}
-use Rattle.dsa_waits.proofs.Hazards.{one_key}
 
 -- ---- two entries
 
@@ -24,22 +23,6 @@ module _ (accepted : Accepted) (es : List (List ℕ)) (ss : List Submission) (c 
   pub pair_without : (earlier later : ℕ) (used : Accepted) → ((key : List ℕ) → ¬ IsWaitKey es ss c earlier later key)
       → AddsKeys (IsUsedPair accepted es ss c earlier later) used used
   pair_without earlier later used none = adds_none (IsUsedPair accepted es ss c earlier later) used (λ key pair. none key pair.1)
-
-  -- nor if it is not accepted
-  pub pair_apart : (earlier later : ℕ) (own : List ℕ) (used : Accepted) → IsWaitKey es ss c earlier later own → has_key accepted own ≡ false
-      → AddsKeys (IsUsedPair accepted es ss c earlier later) used used
-  pair_apart earlier later own used is without =
-      adds_none (IsUsedPair accepted es ss c earlier later) used
-      (λ key pair.
-      let end : true ≡ false = sym pair.0 ∙ (ap (has_key accepted) (one_key es ss c earlier later key own pair.1 is) ∙ without) in
-      cc)
-
-  -- else their key is
-  pub pair_with : (earlier later : ℕ) (own : List ℕ) (old new : Accepted) → IsWaitKey es ss c earlier later own → has_key accepted own ≡ true
-      → AddsKeys (λ key. (key ≡ own) × IsUsedPair accepted es ss c earlier later key) old new → AddsKeys (IsUsedPair accepted es ss c earlier later) old new
-  pair_with earlier later own old new is has adds =
-      adds_same (λ key. (key ≡ own) × IsUsedPair accepted es ss c earlier later key) (IsUsedPair accepted es ss c earlier later) old new
-      (λ key. (λ both. both.1, λ pair. (one_key es ss c earlier later key own pair.1 is, pair))) adds
 
   -- ---- one more
 

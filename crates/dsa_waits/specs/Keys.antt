@@ -16,6 +16,15 @@ abbrev pub wait_key : List (List ℕ) → Submission → Submission → ℕ → 
 wait_key es s t earlier later hs =
     codes "missing wait" ++ (hazard_names hs ++ (key_of_entry es t later ++ key_of_entry es s earlier))
 
+-- what keys say of an entry
+abbrev pub key_at : List (List ℕ) → List Submission → Course → ℕ → List ℕ
+key_at es ss c e = key_of_entry es (submission_at ss (submission_of c e)) e
+
+-- the key of a missing wait of the later entry for the earlier one, which have these hazards
+abbrev pub key_between : List (List ℕ) → List Submission → Course → ℕ → ℕ → Hazards → List ℕ
+key_between es ss c earlier later hs =
+    wait_key es (submission_at ss (submission_of c earlier)) (submission_at ss (submission_of c later)) earlier later hs
+
 -- this is the key of a missing wait of the later entry for the earlier one, which conflict
 abbrev pub IsWaitKey : List (List ℕ) → List Submission → Course → ℕ → ℕ → List ℕ → Type 0
 IsWaitKey es ss c earlier later key =

@@ -1,5 +1,5 @@
 -- ---- for private clauses: the search, event by event
-use Rattle.std.specs.Prelude.{ℕ, ◌≡◌, ◌<◌, ◌≤◌, ◌↔◌, ◌⊎◌, ◌≢◌, Bool, true, false, List, length, get_or, Option, Some}
+use Rattle.std.specs.Prelude.{ℕ, ◌≡◌, ◌<◌, ◌≤◌, ◌↔◌, ◌⊎◌, ◌≢◌, Bool, true, false, List, [], ◌∷◌, ◌++◌, length, get_or, Option, Some}
 use Rattle.std.specs.List.{AllPairs, Contains}
 use Rattle.dsa_audit.specs.Steps.{AreLasts}
 use Rattle.dsa_recording.specs.declared.accepted.Accepted.{Accepted}
@@ -7,7 +7,9 @@ use Rattle.dsa_recording.specs.declared.stream.Submission.{Submission}
 use Rattle.dsa_recording.specs.Pairs.{has_key}
 use Rattle.dsa_waits.specs.declared.course.Course.{Course}
 use Rattle.dsa_waits.specs.declared.search.Flying.{Flying}
-use Rattle.dsa_waits.specs.Keys.{IsLeftWait, IsWaitKey}
+use Rattle.dsa_audit.specs.declared.hazard.Hazards.{Hazards}
+use Rattle.dsa_waits.specs.declared.known.Known.{Known}
+use Rattle.dsa_waits.specs.Keys.{IsLeftWait, IsWaitKey, key_at, key_between}
 use Rattle.dsa_waits.specs.Waits.{IsMissingWait, IsOutstanding, has_ended, made_before, submission_of, tells}
 
 -- the flag of this submission is set, if there is one
@@ -80,3 +82,22 @@ pub record IsFlying (accepted : Accepted) (es : List (List ℕ)) (ss : List Subm
   pub flags : length f.ended.items ≡ length c.made.items
   pub ended : (n : ℕ) → n < length c.made.items → get_or f.ended.items n false ≡ has_ended c k n
   pub used : (key : List ℕ) → (has_key f.used key ≡ true) ↔ UsesBelow accepted es ss c (length f.waits.items) key
+
+-- ---- what is known of the waits of one entry
+
+-- a wait for this earlier entry with these hazards has the key of the known one
+abbrev pub HasKeyOf : List (List ℕ) → List Submission → Course → Known → ℕ → Hazards → Type 0
+HasKeyOf es ss c one earlier hs = (one.hazards ≡ hs) × (key_at es ss c one.earlier ≡ key_at es ss c earlier)
+
+-- whether its key is accepted
+abbrev pub IsKnown : Accepted → List (List ℕ) → List Submission → Course → ℕ → Known → Type 0
+IsKnown accepted es ss c later one = has_key accepted (key_between es ss c one.earlier later one.hazards) ≡ one.is_accepted
+
+-- its key is among those that are used, if it is accepted
+abbrev pub IsSettled : Accepted → List (List ℕ) → List Submission → Course → ℕ → Accepted → Known → Type 0
+IsSettled accepted es ss c later used one =
+    has_key accepted (key_between es ss c one.earlier later one.hazards) ≡ true → has_key used (key_between es ss c one.earlier later one.hazards) ≡ true
+
+-- one more is known, or none
+abbrev pub Remembers : Known → List Known → List Known → Type 0
+Remembers one old new = (new ≡ old) ⊎ (new ≡ old ++ (one ∷ []))

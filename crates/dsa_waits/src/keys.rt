@@ -1,13 +1,15 @@
 //! What missing waits of one kind have in common, and which of them are accepted.
 
-ghost use Rattle.std.specs.Prelude.{◌≡◌, ◌↔◌, ◌<◌, ℕ, IfOk, IsTrue, List, MatchOption, None, get_or, length, string_bytes};
+ghost use Rattle.std.specs.Prelude.{◌≡◌, ◌↔◌, ◌<◌, ℕ, IfOk, IsTrue, List, MatchOption, None, get_or, length, slice_get, string_bytes};
+ghost use Rattle.dsa_audit.specs.Members.{KnownConflict};
+ghost use Rattle.dsa_recording.specs.EntryKeys.{entry_key};
 ghost use Rattle.dsa_waits.specs.Recorded.{submission_at};
-ghost use Rattle.dsa_waits.specs.Keys.{IsWaitAccepted, IsWaitKey, wait_key};
+ghost use Rattle.dsa_waits.specs.Keys.{IsWaitKey, key_at, key_between, wait_key};
 
 use crate::course::{Course, entry_at};
 use crate::fitting::Found;
-use dsa_audit::{Hazards, are_known_to_conflict, hazards_between};
-use dsa_recording::{Accepted, Submission, hazard_names, key_of_entry};
+use dsa_audit::{Hazards, KnownConflicts, Relation, hazards_between};
+use dsa_recording::{Accepted, Header, Submission, hazard_names, key_of_entry};
 use std::alloc::{AllocError, Global};
 
 /// What the keys of waits rest on, and which of them are accepted.
@@ -58,6 +60,41 @@ fn wait_key(
     Ok(text)
 }
 
+/// The key of a missing wait between two entries of these submissions, which have these hazards.
+pub(crate) fn key_between(
+    alloc: Global,
+    all: &[[u8; 64]],
+    submissions: &[Submission],
+    course: &Course,
+    earlier: usize,
+    later: usize,
+    hazards: Hazards,
+) -> Result<String, AllocError>
+    ensures { IfOk result (λ s. string_bytes s ≡
+        key_between all.now submissions.now course.now earlier later hazards) }
+{
+    let first = submission_at(submissions, entry_at(course, earlier).submission);
+    let second = submission_at(submissions, entry_at(course, later).submission);
+    wait_key(alloc, all, first, second, earlier, later, hazards)
+}
+
+/// Whether an entry conflicts with a later one.
+pub(crate) fn conflict_in_order(course: &Course, earlier: usize, later: usize) -> bool
+    ensures { IsTrue result ↔ ((earlier < later)
+        × KnownConflict course.now.members.items earlier later) }
+{
+    if earlier >= later {
+        return false;
+    }
+    if later >= course.members.len() {
+        return false;
+    }
+    let relation = KnownConflicts {
+        members: &course.members,
+    };
+    relation.conflicts(earlier, later)
+}
+
 /// The key of a missing wait between two entries of these submissions, if they conflict.
 pub(crate) fn key_of_wait(
     alloc: Global,
@@ -71,34 +108,52 @@ pub(crate) fn key_of_wait(
         ((key : List ℕ) → ¬ IsWaitKey all.now submissions.now course.now earlier later key)
         (λ s. IsWaitKey all.now submissions.now course.now earlier later (string_bytes s))) }
 {
-    if earlier >= later || later >= course.members.len() {
-        return Ok(None);
-    }
-    if !are_known_to_conflict(&course.members[earlier], &course.members[later]) {
+    if !conflict_in_order(course, earlier, later) {
         return Ok(None);
     }
     let hazards = hazards_between(&course.members, earlier, later);
-    let first = submission_at(submissions, entry_at(course, earlier).submission);
-    let second = submission_at(submissions, entry_at(course, later).submission);
-    let key = wait_key(alloc, all, first, second, earlier, later, hazards)?;
+    let key = key_between(alloc, all, submissions, course, earlier, later, hazards)?;
     Ok(Some(key))
 }
 
-/// Whether the missing wait between two entries is accepted.
-pub(crate) fn is_accepted(
-    keyed: Keyed<'_>,
-    course: &Course,
-    earlier: usize,
-    later: usize,
-) -> Result<bool, AllocError>
-    ensures { IfOk result (λ yes. IsTrue yes ↔ IsWaitAccepted keyed.entry.accepted.now
-        keyed.entry.all.now keyed.entry.submissions.now course.now earlier later) }
+/// Whether keys name these entries by one operation and size.
+fn have_same_words(all: &[[u8; 64]], first: usize, second: usize) -> bool
+    ensures { IsTrue result →
+        entry_key (slice_get all.now first) ≡ entry_key (slice_get all.now second) }
 {
-    let (all, submissions) = (keyed.all, keyed.submissions);
-    match key_of_wait(keyed.alloc, all, submissions, course, earlier, later)? {
-        Some(key) => Ok(keyed.accepted.has(&key)),
-        None => Ok(false),
+    let Some(one) = all.get(first) else {
+        return false;
+    };
+    let Some(other) = all.get(second) else {
+        return false;
+    };
+    let (one, other) = (Header::of(one), Header::of(other));
+    if one.code != other.code {
+        return false;
     }
+    one.size == other.size
+}
+
+/// Whether keys name two entries in the same words.
+pub(crate) fn are_alike(keyed: Keyed<'_>, course: &Course, first: usize, second: usize) -> bool
+    ensures { IsTrue result → key_at keyed.entry.all.now keyed.entry.submissions.now course.now first ≡
+        key_at keyed.entry.all.now keyed.entry.submissions.now course.now second }
+{
+    let one = submission_at(keyed.submissions, entry_at(course, first).submission);
+    let other = submission_at(keyed.submissions, entry_at(course, second).submission);
+    if one.is_batch != other.is_batch {
+        return false;
+    }
+    if one.size != other.size {
+        return false;
+    }
+    if (first < one.first) != (second < other.first) {
+        return false;
+    }
+    if first.saturating_sub(one.first) != second.saturating_sub(other.first) {
+        return false;
+    }
+    have_same_words(keyed.all, first, second)
 }
 
 /// Whether no entry has a wait.

@@ -7,6 +7,7 @@ mod course;
 mod event;
 mod fitting;
 mod keys;
+mod known;
 mod laws;
 mod lines;
 mod recorded;

@@ -1,6 +1,6 @@
 //! The search for missing waits.
 
-ghost use Rattle.std.specs.Prelude.{◌≡◌, ◌+◌, ◌≤◌, ◌<◌, ◌↔◌, IfOk, IsTrue, OnOk, Some, filter, get_or, length, not};
+ghost use Rattle.std.specs.Prelude.{◌≡◌, ◌+◌, ◌≤◌, ◌<◌, ◌↔◌, All, IfOk, IsTrue, OnOk, Some, filter, get_or, length, not};
 ghost use Rattle.std.specs.List.{Contains};
 ghost use Rattle.dsa_audit.specs.Members.{KnownConflict};
 ghost use Rattle.dsa_audit.specs.Steps.{AreLasts};
@@ -8,11 +8,12 @@ ghost use Rattle.dsa_conflicts.specs.Access.{IsGreatest};
 ghost use Rattle.dsa_waits.specs.Keys.{AreUsedKeys, IsLeftConflict, IsLeftWait};
 ghost use Rattle.dsa_recording.specs.Uses.{AddsKeys};
 ghost use Rattle.dsa_waits.specs.Waits.{IsCourse, event_at, is_made, is_told};
-ghost use Rattle.dsa_waits.specs.Steps.{AreBelow, AreOutstanding, HasSubmission, IsFlying, IsRising, IsUsedPair, UsesBetween, UsesFirst, WithRange};
+ghost use Rattle.dsa_waits.specs.Steps.{AreBelow, AreOutstanding, HasSubmission, IsFlying, IsKnown, IsRising, UsesBetween, UsesFirst, WithRange};
 
 use crate::course::{Course, Told, is_told, made_at, told_by};
 use crate::event::{Event, mark};
-use crate::keys::{Keyed, is_accepted, key_of_wait};
+use crate::keys::Keyed;
+use crate::known::{Known, is_accepted, use_wait};
 use dsa_audit::{KnownConflicts, Relation, all_lasts};
 use dsa_recording::Accepted;
 use std::alloc::{AllocError, Global};
@@ -46,6 +47,7 @@ pub struct Missing {
 fn is_left(
     course: &Course,
     keyed: Keyed<'_>,
+    known: &mut Vec<Known>,
     last: usize,
     earlier: usize,
     entry: usize,
@@ -54,8 +56,12 @@ fn is_left(
     requires within { entry < length course.now.members.items }
     requires last { IsGreatest
         (λ a. (a < entry) × KnownConflict course.now.members.items a entry) (Some last) }
-    ensures { IfOk result (λ yes. IsTrue yes ↔ IsLeftConflict keyed.entry.accepted.now
+    requires known { All (IsKnown keyed.accepted.now keyed.all.now keyed.submissions.now
+        course.now entry) known.old.items }
+    ensures left { IfOk result (λ yes. IsTrue yes ↔ IsLeftConflict keyed.entry.accepted.now
         keyed.entry.all.now keyed.entry.submissions.now course.now earlier entry) }
+    ensures known { OnOk result (All (IsKnown keyed.entry.accepted.now keyed.entry.all.now
+        keyed.entry.submissions.now course.now entry) known.new.items) }
 {
     if earlier > last {
         return Ok(false);
@@ -66,7 +72,7 @@ fn is_left(
     if !relation.conflicts(earlier, entry) {
         return Ok(false);
     }
-    Ok(!is_accepted(keyed, course, earlier, entry)?)
+    Ok(!is_accepted(keyed, course, known, earlier, entry)?)
 }
 
 /// The last of the outstanding entries that conflicts with a later one so that a wait is not accepted; `last` is the
@@ -90,10 +96,11 @@ fn last_outstanding(
     let Some(last) = last else {
         return Ok(None);
     };
+    let mut known = Vec::new(keyed.alloc);
     let mut i = outstanding.len();
     while i > 0 {
         i -= 1;
-        if is_left(course, keyed, last, outstanding[i], entry)? {
+        if is_left(course, keyed, &mut known, last, outstanding[i], entry)? {
             return Ok(Some(outstanding[i]));
         }
     }
@@ -132,27 +139,6 @@ fn push_waits(
     Ok(())
 }
 
-/// Adds the key of two entries, if they conflict and it is accepted.
-fn use_wait(
-    used: &mut Accepted,
-    course: &Course,
-    keyed: Keyed<'_>,
-    earlier: usize,
-    entry: usize,
-) -> Result<(), AllocError>
-    ensures { OnOk result (AddsKeys (IsUsedPair keyed.entry.accepted.now keyed.entry.all.now
-        keyed.entry.submissions.now course.now earlier entry) used.old used.new) }
-{
-    let (all, submissions) = (keyed.all, keyed.submissions);
-    let Some(key) = key_of_wait(keyed.alloc, all, submissions, course, earlier, entry)? else {
-        return Ok(());
-    };
-    if !keyed.accepted.has(&key) {
-        return Ok(());
-    }
-    used.add(keyed.alloc, &key)
-}
-
 /// Adds the keys of the missing waits of an entry for the outstanding ones that are accepted.
 fn use_waits(
     used: &mut Accepted,
@@ -165,8 +151,9 @@ fn use_waits(
         keyed.entry.submissions.now course.now outstanding.now (length outstanding.now) entry)
         used.old used.new) }
 {
+    let mut known = Vec::new(keyed.alloc);
     for i in 0..outstanding.len() {
-        use_wait(used, course, keyed, outstanding[i], entry)?;
+        use_wait(used, course, keyed, &mut known, outstanding[i], entry)?;
     }
     Ok(())
 }

@@ -21,7 +21,7 @@ is_left-requires-clause-last c =
 pub returns-then-branch : goal.returns-then-branch
 returns-then-branch c =
     is_last (λ a. IsLeftConflict c.args.keyed.accepted.now c.args.keyed.all.now c.args.keyed.submissions.now c.args.course.now a c.args.entry) c.args.outstanding.now
-    (c.loop-i.i - 1) 0 c.requires.rising (omega arith) (c.in_ok-is_left.ensures.0 c.if-branch.true) (λ x later within. c.loop-i.invariant.apart x (omega arith) within)
+    (c.loop-i.i - 1) 0 c.requires.rising (omega arith) (c.in_ok-is_left.ensures.left.0 c.if-branch.true) (λ x later within. c.loop-i.invariant.apart x (omega arith) within)
 
 pub loop-i-preserved : goal.loop-i-preserved
 loop-i-preserved c =
@@ -31,7 +31,8 @@ loop-i-preserved c =
           apart_more
           (λ x. IsLeftConflict c.args.keyed.accepted.now c.args.keyed.all.now c.args.keyed.submissions.now c.args.course.now (get_or c.args.outstanding.now x 0) c.args.entry)
           c.loop-i.i (length c.args.outstanding.now) c.loop-i.invariant.apart
-          (λ left. let no : false ≡ true = sym c.if-branch.false ∙ c.in_ok-is_left.ensures.1 left in cc);
+          (λ left. let no : false ≡ true = sym c.if-branch.false ∙ c.in_ok-is_left.ensures.left.1 left in cc);
+      known = c.in_ok-is_left.ensures.known;
     }
 
 pub returns : goal.returns

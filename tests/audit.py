@@ -16,7 +16,7 @@ import time
 import audit_model
 import common
 from audit_accepted import (
-    accepting, by_hand, costs_by_hand, hazards_by_hand, padded_accepting, soon_accepted, stale_by_hand,
+    accepting, by_hand, costs_by_hand, hazards_by_hand, padded_accepting, soon_accepted, soon_used, stale_by_hand,
     till_none_is_left,
 )
 from audit_drawn import alike, counted, known_beside_unknown, no_effect, pictures, sizes, soon_drawn, too_large
@@ -253,7 +253,8 @@ def main(words):
     if numbers:
         audit_model.COUNT = numbers[-1]
     parts = [brute_force, padded, accepting, till_none_is_left, padded_accepting, by_hand, costs_by_hand]
-    parts += [hazards_by_hand, stale_by_hand, soon_accepted, pictures, sizes, no_effect, known_beside_unknown, alike]
+    parts += [hazards_by_hand, stale_by_hand, soon_accepted, soon_used, pictures, sizes, no_effect]
+    parts += [known_beside_unknown, alike]
     parts += [wide_fills, too_large]
     parts += [planned, staged, lines, lists, unseen]
     parts += [ends, in_parts, small_memory, forms, speed, soon_drawn]

@@ -297,3 +297,27 @@ def soon_accepted():
         accepted = sum(it["severity"] == "accepted" for it in report["findings"])
         print(f"a batch of {size}, {name}, {accepted} accepted: {took:.2f} s, {len(report['findings'])} findings")
         common.expect(accepted == size // 2 and took < 10, f"{name}: {accepted} accepted, {took:.1f} s")
+
+
+def soon_used():
+    """4,000 batches that lack a fence, with 4,000 keys for batches of as many that fit nothing: the later member has
+    another size in each, or the earlier one; and a batch of 1,000 with 20,000 keys, of which each pair of neighbours
+    uses one. The processor time is printed; more than six seconds are a fault."""
+    what = "missing fence, write after write; batch of"
+    pair = [move(0x1000 + 64 * k, 0x2000, size=8, record_at=0x9000 + 32 * k).bytes() for k in range(2)]
+    many = [move(0x100000 + 64 * k, 0x2000, size=8, record_at=0x900000 + 32 * k).bytes() for k in range(1000)]
+    later = [f"{what} 2; member 1: move, {9 + k} bytes; member 0: move, 8 bytes" for k in range(4000)]
+    earlier = [f"{what} 2; member 1: move, 8 bytes; member 0: move, {9 + k} bytes" for k in range(4000)]
+    own = f"{what} 2; member 1: move, 8 bytes; member 0: move, 8 bytes"
+    near = [f"{what} 1000; member {k}: move, 8 bytes; member {k - 1}: move, 8 bytes" for k in range(1, 1000)]
+    far = [f"{what} 1000; member {k % 1000}: move, 8 bytes; member {k}: move, 8 bytes" for k in range(1000, 20001)]
+    cases = {"another later member": (batch(*pair) * 4000, [*later, own], 4000, 0)}
+    cases["another earlier member"] = (batch(*pair) * 4000, [own, *earlier], 4000, 0)
+    cases["a long batch"] = (batch(*many), [*far, *near], 19001, 1)
+    for name, (recording, keys, stale, wanted) in cases.items():
+        start = os.times().children_user
+        report, status = with_keys(recording, keys)
+        took = os.times().children_user - start
+        print(f"{len(keys)} accepted keys, {name}: {took:.2f} s")
+        common.expect((status, len(report["stale"])) == (wanted, stale), f"{name}: {status}, {len(report['stale'])}")
+        common.expect(took < 6, f"{name}: {took:.1f} s")

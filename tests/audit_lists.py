@@ -2,6 +2,7 @@
 finding, lacks a fence where one is left out, and has one report as a recording, as dumps and as lines. What
 `audit --list` has to write is typed from docs/FORMATS.md."""
 
+import itertools
 import json
 import re
 import struct
@@ -159,21 +160,27 @@ def lines():
 # ---- a recording as a list to plan
 
 
+def is_checked(it):
+    """The entry is a compare with the flag check result."""
+    return it[7] in (COMPARE, PATTERN) and it[4] & 0x80 != 0
+
+
 def operation_line(it, number):
     """The line of an entry in the list of its recording, as docs/FORMATS.md has the grammar."""
     owner, word, record, first, second, size = struct.unpack_from("<IIQQQI", it)
     own, digits = int.from_bytes(it[40:48], "little"), it[16:24].hex()
+    expected, check = (it[40], ", check") if is_checked(it) else (0, "")
     front = {
         MOVE: f"move {first:#x} -> {second:#x}, {size} bytes",
         FILL: f"fill {second:#x} with {digits}, {size} bytes",
-        COMPARE: f"compare {first:#x} with {second:#x}, {size} bytes, expect 0",
-        PATTERN: f"compare {first:#x} with pattern {it[24:32].hex()}, {size} bytes, expect 0",
+        COMPARE: f"compare {first:#x} with {second:#x}, {size} bytes, expect {expected}",
+        PATTERN: f"compare {first:#x} with pattern {it[24:32].hex()}, {size} bytes, expect {expected}",
         DELTA: f"delta {first:#x}, {own & 0xFFFFFFFF} bytes -> {second:#x}, {size} bytes",
         DUALCAST: f"dualcast {first:#x} -> {second:#x} and {own:#x}, {size} bytes",
     }[word >> 24]
     at = record if word & 0x0C == 0x0C else ADDED + 32 * number
     pasid = f", pasid {owner % 2**20}" if owner % 2**20 else ""
-    return f"{front}, record {at:#x}{pasid}{', privileged' if owner >> 31 else ''} # entry {number}"
+    return f"{front}, record {at:#x}{pasid}{', privileged' if owner >> 31 else ''}{check} # entry {number}"
 
 
 def operation_words(code):
@@ -191,6 +198,8 @@ def listed_line(it, owner, number, count):
         return f"# entry {number}, left out: {operation_words(code)}"
     if any(span.start < ADDED + 32 * count and ADDED < span.stop and len(span) for span in known[0] + known[1]):
         return f"# entry {number}, left out: it touches addresses that this list keeps for records"
+    if is_checked(it) and it[40] > 1:
+        return f"# entry {number}, left out: its check expects another result than 0 or 1"
     return operation_line(it, number)
 
 
@@ -202,9 +211,10 @@ def kept_fences(recording):
 
 
 def wanted_list(recording):
-    """The list of a recording: a line for each entry but those of batches, and one before each fence that is kept."""
+    """The list of a recording: a line for each entry but those of batches, and one before each fence that is kept; and
+    before them how many entries have a comment in place of their operation."""
     entries = [recording[at : at + 64] for at in range(0, len(recording), 64)]
-    lines, left, head, kept = [], 0, b"", kept_fences(recording)
+    lines, left, head, kept, total, out = [], 0, b"", kept_fences(recording), 0, 0
     for number, it in enumerate(entries):
         if number in kept:
             lines.append(f"barrier # {kept[number]} fence of entry {number}")
@@ -215,6 +225,12 @@ def wanted_list(recording):
         left -= 0 if lone else 1
         owner = struct.unpack_from("<I", it if lone else head)[0]
         lines.append(listed_line(it, owner, number, len(entries)))
+        total, out = total + 1, out + lines[-1].startswith("#")
+    if total == 0:
+        lines.insert(0, "# this list is empty: the recording has no operations")
+    if out:
+        why = "each for the reason in its comment: no plan has them, and no cost counts them"
+        lines.insert(0, f"# left out: {out} of {total} operations, {why}")
     return "".join(line + "\n" for line in lines)
 
 
@@ -260,8 +276,12 @@ def lists():
     for first in (ADDED - 65, ADDED - 64, ADDED - 63, ADDED, ADDED + 95, ADDED + 96, WRAP - 64):
         recording = b"".join(entry(MOVE, 0, 0, first, 0x2000 + 64 * k, 64) for k in range(3))
         common.expect(as_list(recording) == wanted_list(recording), f"a source at {first:#x}: another list")
+    for code, flags, expected in itertools.product((COMPARE, PATTERN, MOVE), (0x0C, 0x8C), (0, 1, 2, 255)):
+        recording = entry(code, flags, 0x8000, 0x1000, 0x2000, 8, expected)
+        place = f"operation {code}, flags {flags:#x}, {expected}"
+        common.expect(as_list(recording) == wanted_list(recording), f"{place}: another list")
     for path, portal, staging, address in planned_jobs():
         recording = recorded(portal, staging, address)
         text = as_list(recording)
         common.expect(text == wanted_list(recording), f"{path}: another list")
-        common.expect(text.count("\n") == text.count(" # entry "), f"{path}: a piece was left out")
+        common.expect("left out" not in text, f"{path}: a piece was left out")

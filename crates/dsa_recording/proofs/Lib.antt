@@ -27,5 +27,7 @@ pub mod StandIns
 pub mod ListingRead
 pub mod FenceKeys
 pub mod NamedPairs
+pub mod Fronts
 pub mod Using
+mod Taking
 mod Flawed

@@ -2,7 +2,7 @@
 use Rattle.std.proofs.Common.{◌≡◌, ℕ, suc, Bool, true, false, cond, Option, Some, None, List, [], ◌∷◌, ◌++◌, drop, length, refl, sym, ap, subst, ◌∙◌, append_assoc, arith}
 use Rattle.std.specs.Prelude.{◌==◌, codes, decimal, map, slice_index_or}
 use Rattle.std.specs.Fmt.{digits}
-use Rattle.std.specs.List.{AllByRecursion}
+use Rattle.std.specs.List.{AllByRecursion, sum_by}
 use Rattle.dsa_audit.specs.declared.member.Member.{Member}
 use Rattle.dsa_audit.specs.declared.member.Member.TheVariants.{Known, Unknown}
 use Rattle.dsa_audit.specs.declared.needless.FenceUse.{FenceUse}
@@ -13,7 +13,7 @@ use Rattle.dsa_descriptor.specs.declared.descriptor.Descriptor.{Descriptor}
 use Rattle.dsa_descriptor.specs.declared.op.Op.{Op}
 use Rattle.dsa_descriptor.specs.Descriptors.{fields}
 use Rattle.dsa_descriptor.specs.Fields.{Fields}
-use Rattle.dsa_descriptor.specs.Places.{code_at, op_at}
+use Rattle.dsa_descriptor.specs.Places.{code_at, flags_at, op_at}
 use Rattle.dsa_descriptor.specs.Profile.{IsListed}
 use Rattle.dsa_lines.specs.Text.{line_text}
 use Rattle.dsa_lines.specs.Texts.{lines_of, line_fields, all_fields, TextSpells}
@@ -25,9 +25,10 @@ use Rattle.dsa_lines.proofs.TextLemmas.{all_listed}
 use Rattle.dsa_ranges.specs.declared.span.Touched.{Touched}
 use Rattle.dsa_recording.specs.declared.stream.Submission.{Submission}
 use Rattle.dsa_recording.specs.declared.submission.Audited.{Audited}
-use Rattle.dsa_recording.specs.Listings.{stand_in, barrier_for, fence_line, is_apart_from_added, left_out, operation_line, plain_words, known_line, member_line, member_lines, listing_text, known_operation, member_operation, member_operations, listed_operations}
+use Rattle.dsa_recording.specs.Listings.{stand_in, barrier_for, fence_line, is_apart_from_added, left_out, operation_line, plain_words, known_line, member_line, member_lines, submission_lines, left_words, left_line, left_count, listing_text, op_in_list, expects_bit, known_operation, member_operation, member_operations, listed_operations}
 use Rattle.dsa_recording.specs.Furthers.{code_name}
 use Rattle.dsa_recording.specs.EntryWords.{in_brackets, operation_words}
+use Rattle.dsa_recording.specs.Totals.{member_count}
 use Rattle.dsa_recording.specs.Words.{unseen_words}
 
 -- ---- a line
@@ -98,17 +99,20 @@ operation_reads number e op listed =
       spells = commented_read f (codes " entry " ++ decimal number) listed comment;
     }
 
-apart_reads : (apart : Bool) (number : ℕ) (e : List ℕ) (op : Op) → AllByRecursion IsListed (cond apart (stand_in number e op ∷ []) [])
+-- whether it is apart from added records, and whether a list has what it expects
+apart_reads : (apart fits : Bool) (number : ℕ) (e : List ℕ) (op : Op) → AllByRecursion IsListed (cond apart (cond fits (stand_in number e op ∷ []) []) [])
     → Reads
-    (cond apart (operation_line number e op) (left_out number (codes "left out: it touches addresses that this list keeps for records")))
-    (cond apart (stand_in number e op ∷ []) [])
-apart_reads true number e op all = operation_reads number e op all.0
-apart_reads false number e op all = left_out_reads number (codes "left out: it touches addresses that this list keeps for records") refl
+    (cond apart (cond fits (operation_line number e op) (left_out number (codes "left out: its check expects another result than 0 or 1")))
+    (left_out number (codes "left out: it touches addresses that this list keeps for records")))
+    (cond apart (cond fits (stand_in number e op ∷ []) []) [])
+apart_reads true true number e op all = operation_reads number e op all.0
+apart_reads true false number e op all = left_out_reads number (codes "left out: its check expects another result than 0 or 1") refl
+apart_reads false fits number e op all = left_out_reads number (codes "left out: it touches addresses that this list keeps for records") refl
 
 known_reads : (count number : ℕ) (e : List ℕ) (t : Touched) (op : Option Op) → AllByRecursion IsListed (known_operation count number e t op)
     → Reads (known_line count number e t op) (known_operation count number e t op)
 known_reads count number e t None all = left_out_reads number (plain_words (code_at e)) (plain_is_line (code_at e))
-known_reads count number e t (Some op) all = apart_reads (is_apart_from_added count t) number e op all
+known_reads count number e t (Some op) all = apart_reads (is_apart_from_added count t) (expects_bit (op_in_list op (flags_at e))) number e op all
 
 member_reads : (count number : ℕ) (e : List ℕ) (m : Member) → AllByRecursion IsListed (member_operation count number e m)
     → Reads (member_line count number e m) (member_operation count number e m)
@@ -165,14 +169,37 @@ members_read es at (m ∷ ms) uses rest more all e =
     ∙ ap Some (sym (append_assoc here (member_operations es (suc at) ms) more))
 
 listed_reads : (es : List (List ℕ)) (ss : List Submission) (audits : List Audited) → AllByRecursion IsListed (listed_operations es ss audits)
-    → TextSpells (listing_text es ss audits) (listed_operations es ss audits)
-unfolding listing_text listed_operations
+    → TextSpells (submission_lines es ss audits) (listed_operations es ss audits)
+unfolding submission_lines listed_operations
 listed_reads es [] audits all = nothing
 listed_reads es (s ∷ ss) [] all = nothing
 listed_reads es (s ∷ ss) (a ∷ audits) all =
     let parts = listed_parts (member_operations es s.first a.members.items) (listed_operations es ss audits) all in
-    members_read es s.first a.members.items a.audit.reduced.uses.items (listing_text es ss audits) (listed_operations es ss audits) parts.0 (listed_reads es ss audits parts.1)
+    members_read es s.first a.members.items a.audit.reduced.uses.items (submission_lines es ss audits) (listed_operations es ss audits) parts.0 (listed_reads es ss audits parts.1)
+
+-- ---- the line that says how many are left out
+
+left_comment : (left total : ℕ) → Reads (left_words left total) []
+left_comment left total =
+    let last : List ℕ = codes " operations, each for the reason in its comment: no plan has them, and no cost counts them" in
+    let of_all : is_line (codes " of " ++ (decimal total ++ last)) ≡ true = line_append (codes " of ") (decimal total ++ last) refl (line_append (decimal total) last (decimal_line total) refl) in
+    let comment : is_line (codes " left out: " ++ (decimal left ++ (codes " of " ++ (decimal total ++ last)))) ≡ true =
+    line_append (codes " left out: ") (decimal left ++ (codes " of " ++ (decimal total ++ last))) refl (line_append (decimal left) (codes " of " ++ (decimal total ++ last)) (decimal_line left) of_all) in
+    record { is = comment; spells = comment_read (codes " left out: " ++ (decimal left ++ (codes " of " ++ (decimal total ++ last)))) comment }
+
+left_read : (empty none : Bool) (left total : ℕ) (rest : List ℕ) (more : List Fields) → TextSpells rest more
+    → TextSpells (cond empty (codes "# this list is empty: the recording has no operations" ++ 10 ∷ []) (cond none [] (left_words left total ++ 10 ∷ [])) ++ rest) more
+left_read true none left total rest more e =
+    let comment : List ℕ = codes " this list is empty: the recording has no operations" in
+    line_before (35 ∷ comment) rest [] more refl (comment_read comment refl) e
+left_read false true left total rest more e = e
+left_read false false left total rest more e =
+    let reads : Reads (left_words left total) [] = left_comment left total in
+    line_before (left_words left total) rest [] more reads.is reads.spells e
 
 pub listing_is_read : (es : List (List ℕ)) (ss : List Submission) (audits : List Audited) (ds : List Descriptor) → listed_operations es ss audits ≡ map fields ds
     → TextSpells (listing_text es ss audits) (listed_operations es ss audits)
-listing_is_read es ss audits ds e = listed_reads es ss audits (subst (AllByRecursion IsListed) (sym e) (all_listed ds))
+listing_is_read es ss audits ds e =
+    let left : ℕ = left_count es ss audits in
+    left_read (sum_by member_count audits == 0) (left == 0) left (sum_by member_count audits) (submission_lines es ss audits) (listed_operations es ss audits)
+    (listed_reads es ss audits (subst (AllByRecursion IsListed) (sym e) (all_listed ds)))

@@ -16,7 +16,7 @@ use Rattle.dsa_ranges.specs.Ranges.{SpansConflict, WritesInto, read_spans, writt
 use Rattle.dsa_audit.specs.Members.{TouchedConflict}
 use Rattle.dsa_recording.specs.Entries.{sources_of, targets_of}
 use Rattle.dsa_recording.specs.Furthers.{further_at}
-use Rattle.dsa_recording.specs.Listings.{expecting_zero, requested_records, records_from, stand_in, is_clear, Does, StandInsConflict}
+use Rattle.dsa_recording.specs.Listings.{expecting_zero, is_checked, op_in_list, requested_records, records_from, stand_in, is_clear, Does, StandInsConflict}
 
 -- ---- spans that are clear of the added records
 
@@ -130,16 +130,26 @@ same_targets (ComparePattern src pattern expected) size = refl
 same_targets (ApplyDelta delta dst record_size) size = refl
 same_targets (Dualcast src dst dst2) size = refl
 
+-- so with the operation as it is, if its result is checked
+listed_sources : (checked : Bool) (op : Op) (size : ℕ) → sources (if checked then op else expecting_zero op) size ≡ sources op size
+listed_sources true op size = refl
+listed_sources false op size = same_sources op size
+
+listed_targets : (checked : Bool) (op : Op) (size : ℕ) → targets (if checked then op else expecting_zero op) size ≡ targets op size
+listed_targets true op size = refl
+listed_targets false op size = same_targets op size
+
 writes : (k : ℕ) (e : List ℕ) (t : Touched) (op : Op) → Does e t → op_at e ≡ Some op → Adds k (written_spans (stand_in k e op)) t.writes.items
 writes k e t op does is =
     let size : ℕ = u32_at 32 e in
-    let ranges : targets_of (op_at e) size (further_at e) ≡ targets (expecting_zero op) size = ap (λ (o : Option Op). targets_of o size (further_at e)) is ∙ sym (same_targets op size) in
-    let whole : t.writes.items ≡ requested_records e ++ targets (expecting_zero op) size = does.writes ∙ ap (λ (ss : List Span). requested_records e ++ ss) ranges in
+    let listed : Op = op_in_list op (flags_at e) in
+    let ranges : targets_of (op_at e) size (further_at e) ≡ targets listed size = ap (λ (o : Option Op). targets_of o size (further_at e)) is ∙ sym (listed_targets (is_checked op (flags_at e)) op size) in
+    let whole : t.writes.items ≡ requested_records e ++ targets listed size = does.writes ∙ ap (λ (ss : List Span). requested_records e ++ ss) ranges in
     subst (Adds k (written_spans (stand_in k e op))) (sym whole)
-    (adds_by (bit_and (flags_at e) required_flags == required_flags) k (u64_at 8 e) (targets (expecting_zero op) size))
+    (adds_by (bit_and (flags_at e) required_flags == required_flags) k (u64_at 8 e) (targets listed size))
 
 reads : (k : ℕ) (e : List ℕ) (t : Touched) (op : Op) → Does e t → op_at e ≡ Some op → read_spans (stand_in k e op) ≡ t.reads.items
-reads k e t op does is = sym (does.reads ∙ ap (λ (o : Option Op). sources_of o (u32_at 32 e) (further_at e)) is ∙ sym (same_sources op (u32_at 32 e)))
+reads k e t op does is = sym (does.reads ∙ ap (λ (o : Option Op). sources_of o (u32_at 32 e) (further_at e)) is ∙ sym (listed_sources (is_checked op (flags_at e)) op (u32_at 32 e)))
 
 pub stand_ins_conflict : StandInsConflict
 stand_ins_conflict count m n d e t u o p unlike lt lt' first second o_is p_is t_clear u_clear =

@@ -1,22 +1,18 @@
 -- Which keys are used.
-use Rattle.std.proofs.Common.{◌≡◌, ◌↔◌, ◌⊎◌, ℕ, zero, suc, ◌+◌, ◌-◌, ◌<◌, ◌≤◌, get_or, take, drop, inl, inr, Bool, true, false, cond, List, [], ◌∷◌, length, Option, Some, None, subst, sym, ap, refl, ◌∙◌, arith}
+use Rattle.std.proofs.Common.{◌≡◌, ◌↔◌, ◌⊎◌, ℕ, zero, suc, ◌+◌, ◌<◌, ◌≤◌, get_or, drop, inl, inr, Bool, true, false, cond, List, [], ◌∷◌, length, Option, Some, None, subst, sym, ap, refl, ◌∙◌, arith}
 use Rattle.std.specs.Prelude.{◌||◌, Result, Ok, Err, OnOk, String, string_bytes}
 use Rattle.std.specs.Global.{Global}
 use Rattle.std.specs.Str.{bytes_eq}
 use Rattle.std.specs.List.{AllByRecursion, list_any}
-use Rattle.std.specs.BTreeMap.{is_at}
 use Rattle.std.specs.Set.{IsUnion}
-use Rattle.std.specs.Ordering.{eq_by_cmp, nat_cmp}
-use Rattle.std.specs.Cmp.Lexicographic.{slice_cmp}
+use Rattle.std.specs.Ordering.{eq_by_cmp}
 use Rattle.std.specs.String.{string_cmp}
-use Rattle.std.proofs.lemmas.Map.Text.{is_eq-slice_cmp}
 use Rattle.dsa_settings.specs.Plan.{Group}
 use Rattle.dsa_audit.specs.declared.missing.FencePlace.{FencePlace}
 use Rattle.dsa_audit.specs.declared.missing.FencePlace.TheVariants as fence_place
 use Rattle.dsa_audit.specs.Audits.{HasFence, IsCorrected, IsSeparated, PlaceHolds, ShareEpoch}
 use Rattle.dsa_audit.specs.Members.{AreHazardsBetween}
 use Rattle.dsa_audit.specs.Repeats.{OrderMatters}
-use Rattle.std.proofs.lemmas.List.{take_all}
 use Rattle.std.proofs.lemmas.Slice.Eq.{bytes_eq-Decides}
 use Rattle.dsa_audit.specs.declared.hazard.Hazards.{Hazards}
 use Rattle.dsa_recording.specs.declared.accepted.Accepted.{Accepted}
@@ -31,7 +27,8 @@ use Rattle.dsa_recording.specs.EntryKeys.{fence_key}
 use Rattle.dsa_recording.specs.Keys.{key_words}
 use Rattle.dsa_recording.specs.Pairs.{has_key}
 use Rattle.dsa_recording.specs.Reports.{Reported}
-use Rattle.dsa_recording.specs.Uses.{AddsKeys, Excuses, ExcusesSome, HasLine, LinesTakeOut, TakesOut, TakesSomeOut}
+use Rattle.dsa_recording.specs.Uses.{AddsKeys, Excuses, ExcusesSome, NeedFence, TakesAcceptedOut, TakesOut, TakesSomeOut}
+use Rattle.dsa_recording.proofs.Fronts.{Matches, found_text}
 use Rattle.dsa_recording.proofs.Keyed.{one_hazards, one_key}
 
 -- ---- sets of keys
@@ -146,22 +143,6 @@ left_none P R old new never left key = (
 
 -- ---- the keys of two sets
 
--- whether a key has these bytes
-abbrev Matches : List ℕ → String Global → Bool
-Matches bs k = is_at (λ k. slice_cmp nat_cmp bs (string_bytes k)) k
-
-found_by : (bs : List ℕ) (k : String Global) (rest : Bool) (b : Bool) → Matches bs k ≡ b → (b || rest) ≡ true → (bs ≡ string_bytes k) ⊎ (rest ≡ true)
-found_by bs k rest true here e = inl ((bytes_eq-Decides bs (string_bytes k)).0 (sym (is_eq-slice_cmp bs (string_bytes k)) ∙ here))
-found_by bs k rest false here e = inr e
-
-found_text : (bs : List ℕ) (ks : List (String Global)) → list_any (Matches bs) ks ≡ true → (k : String Global) × (bs ≡ string_bytes k)
-found_text bs [] e = let never : false ≡ true = e in absurd cc
-found_text bs (k ∷ ks) e =
-    elim (found_by bs k (list_any (Matches bs) ks) (Matches bs k) refl e) [
-      | inl here ↦ (k, here)
-      | inr later ↦ found_text bs ks later
-    ]
-
 either_true : (a b : Bool) → (a || b) ≡ true → (a ≡ true) ⊎ (b ≡ true)
 either_true true b e = inl refl
 either_true false b e = inr e
@@ -185,10 +166,6 @@ union_texts xs ys zs union bs = (
   same (k, e) = subst (λ (w : List ℕ). list_any (Matches w) zs ≡ (list_any (Matches w) xs || list_any (Matches w) ys)) (sym e) (union k)
 
 -- ---- what a key is used for
-
--- the two members need a fence that is not there
-abbrev pub NeedFence : Audited → ℕ → ℕ → Type 0
-NeedFence a i j = (i < j) × (j < length a.operands.items) × OrderMatters a.actions.items a.operands.items i j × ShareEpoch a.fences.items i j
 
 -- those that a key takes out do
 pub takes_needed : (es : List (List ℕ)) (a : Audited) (key : List ℕ) (earlier later : ℕ) (t : TakesOut es a key) → t.earlier ≡ earlier → t.later ≡ later → NeedFence a earlier later
@@ -231,20 +208,6 @@ takes_none es a is known right key t =
     given_by C g h apart.at (get_or a.audit.unaccepted.places.items apart.at fence_place.NoFence) (right_at a.audit.unaccepted.places.items right apart.at) holds apart.fence in
     t.unseparated apart.at apart.behind apart.up_to fence
 
--- the first of two numbers
-abbrev first_of : Option (ℕ × ℕ) → ℕ
-first_of None = 0
-first_of (Some p) = p.0
-
--- and the second
-abbrev second_of : Option (ℕ × ℕ) → ℕ
-second_of None = 0
-second_of (Some p) = p.1
-
--- a pair is named once
-pub named_once : (a b x y : ℕ) → ◌≡◌ {A = Option (ℕ × ℕ)} (Some (a, b)) (Some (x, y)) → (a ≡ x) × (b ≡ y)
-named_once a b x y e = (ap first_of e, ap second_of e)
-
 -- what is so of a success is so of it in other words
 pub on_ok : {E : Type 0} (r : Result Unit E) (P Q : Type 0) → (P → Q) → OnOk r P → OnOk r Q
 on_ok (Ok x) P Q f p = f p
@@ -254,24 +217,7 @@ on_ok (Err e) P Q f p = tt
 pub excuses_one : (options : AuditOptions) (es : List (List ℕ)) (r : Reported) (f : Finding) (d : Detail) (key : List ℕ) → IsDetail es r f d → Excuses options es r f key → key ≡ key_words es d
 excuses_one options es r f d key is (harmful, (e, there, same)) = same ∙ one_key es r f e d there is
 
--- ---- loops over lines and findings
-
--- one more line
-pub line_next : (es : List (List ℕ)) (a : Audited) (line : String Global) (after : List (String Global)) (text : List ℕ) (old new : Accepted) → text ≡ string_bytes line
-    → AddsKeys (λ key. (key ≡ text) × TakesOut es a key) old new
-    → (key : List ℕ) → LeftKeys (LinesTakeOut es a after) new key ↔ LeftKeys (LinesTakeOut es a (line ∷ after)) old key
-line_next es a line after text old new same adds =
-    left_next (λ key. (key ≡ text) × TakesOut es a key) (LinesTakeOut es a after) (LinesTakeOut es a (line ∷ after)) old new adds
-    (λ key. (
-      λ here. elim here.0 [
-        | inl first ↦ inl (first ∙ sym same, here.1)
-        | inr more ↦ inr (more, here.1)
-      ],
-      λ either. elim either [
-        | inl first ↦ (inl (first.0 ∙ same), first.1)
-        | inr more ↦ (inr more.0, more.1)
-      ],
-    ))
+-- ---- loops over submissions and findings
 
 -- one more finding
 pub finding_next : (options : AuditOptions) (es : List (List ℕ)) (r : Reported) (f : Finding) (after : List Finding) (old new : Accepted)
@@ -292,14 +238,7 @@ finding_next options es r f after old new adds =
       ],
     ))
 
--- a list that is cut after its first element
-pub cut_first : {X : Type 0} (rest : List X) (x : X) → 1 ≤ length rest → x ≡ get_or rest 0 x → rest ≡ x ∷ take (length rest - 1) (drop 1 rest)
-cut_first [] x le e = absurd (omega (arith, le))
-cut_first (y ∷ ys) x le e =
-    let count : length (y ∷ ys) - 1 ≡ length ys = omega arith in
-    ap (λ z. z ∷ ys) (sym e) ∙ ap (λ l. x ∷ l) (sym (ap (λ n. take n ys) count ∙ take_all (length ys) ys (omega arith)))
-
--- and one that is cut before an element
+-- a list that is cut before an element
 pub drop_next : {X : Type 0} (xs : List X) (k : ℕ) (d : X) → k < length xs → drop k xs ≡ get_or xs k d ∷ drop (k + 1) xs
 drop_next [] k d lt = absurd (omega (arith, lt))
 drop_next (x ∷ xs) zero d lt = refl
@@ -315,12 +254,13 @@ drop_past (x ∷ xs) zero le = absurd (omega (arith, le))
 drop_past (x ∷ xs) (suc k) le = drop_past xs k (omega (arith, le))
 
 -- one more submission
-pub submission_next : (es : List (List ℕ)) (lines : List (String Global)) (s : Submission) (ss : List Submission) (a : Audited) (audits : List Audited) (old new : Accepted)
-    → AddsKeys (LinesTakeOut (members_in es s) a lines) old new
-    → (key : List ℕ) → LeftKeys (λ key. HasLine lines key × TakesSomeOut es ss audits key) new key ↔ LeftKeys (λ key. HasLine lines key × TakesSomeOut es (s ∷ ss) (a ∷ audits) key) old key
-submission_next es lines s ss a audits old new adds =
-    left_next (LinesTakeOut (members_in es s) a lines) (λ key. HasLine lines key × TakesSomeOut es ss audits key) (λ key. HasLine lines key × TakesSomeOut es (s ∷ ss) (a ∷ audits) key)
-    old new adds
+pub submission_next : (accepted : Accepted) (es : List (List ℕ)) (s : Submission) (ss : List Submission) (a : Audited) (audits : List Audited) (old new : Accepted)
+    → AddsKeys (TakesAcceptedOut accepted (members_in es s) a) old new
+    → (key : List ℕ) → LeftKeys (λ key. (has_key accepted key ≡ true) × TakesSomeOut es ss audits key) new key
+    ↔ LeftKeys (λ key. (has_key accepted key ≡ true) × TakesSomeOut es (s ∷ ss) (a ∷ audits) key) old key
+submission_next accepted es s ss a audits old new adds =
+    left_next (TakesAcceptedOut accepted (members_in es s) a) (λ key. (has_key accepted key ≡ true) × TakesSomeOut es ss audits key)
+    (λ key. (has_key accepted key ≡ true) × TakesSomeOut es (s ∷ ss) (a ∷ audits) key) old new adds
     (λ key. (
       λ here. elim here.1 [
         | inl first ↦ inl (here.0, first)

@@ -62,3 +62,7 @@ fence_words hs = codes "missing fence" ++ hazard_names hs
 abbrev pub fence_key : List (List ℕ) → ℕ → ℕ → Hazards → List ℕ
 fence_key es earlier later hs =
     fence_words hs ++ (batch_key (length es) ++ (member_key es 0 later ++ member_key es 0 earlier))
+
+-- what it begins with, up to the number of the earlier member
+abbrev pub fence_front : List (List ℕ) → ℕ → Hazards → List ℕ
+fence_front es later hs = fence_words hs ++ (batch_key (length es) ++ (member_key es 0 later ++ codes "; member "))

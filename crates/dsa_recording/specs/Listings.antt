@@ -1,6 +1,6 @@
 -- A recording as a list of operations to plan (this project's choice): a line for each member, in the order of the entries.
-use Rattle.std.specs.Prelude.{ℕ, suc, ◌≡◌, ◌≢◌, ◌+◌, ◌*◌, ◌^◌, ◌<◌, ◌≤◌, ◌&&◌, ◌||◌, ◌==◌, ◌↔◌, nat_le, bit_and, Bool, true, List, [], ◌∷◌, ◌++◌, drop, length, slice_index_or, codes, decimal, map, Option, Some, None, if◌then◌else◌}
-use Rattle.std.specs.List.{list_all}
+use Rattle.std.specs.Prelude.{ℕ, suc, ◌≡◌, ◌≢◌, ◌+◌, ◌*◌, ◌^◌, ◌<◌, ◌≤◌, ◌-◌, ◌&&◌, ◌||◌, ◌==◌, ◌↔◌, nat_le, bit_and, Bool, true, false, List, [], ◌∷◌, ◌++◌, drop, length, slice_index_or, codes, decimal, map, Option, Some, None, if◌then◌else◌}
+use Rattle.std.specs.List.{list_all, sum_by}
 use Rattle.dsa_descriptor.specs.declared.op.Op.{Op}
 use Rattle.dsa_descriptor.specs.declared.op.Op.TheVariants.{Move, Fill, Compare, ComparePattern, ApplyDelta, Dualcast}
 use Rattle.dsa_descriptor.specs.declared.span.Span.{Span}
@@ -17,12 +17,15 @@ use Rattle.dsa_audit.specs.declared.member.Member.TheVariants.{Known, Unknown}
 use Rattle.dsa_audit.specs.declared.needless.FenceUse.{FenceUse}
 use Rattle.dsa_audit.specs.declared.needless.FenceUse.TheVariants as fence_use
 use Rattle.dsa_audit.specs.Members.{TouchedConflict}
+use Rattle.dsa_lines.specs.Options.{flags_with}
 use Rattle.dsa_lines.specs.Text.{line_text}
 use Rattle.dsa_lines.specs.Texts.{TextSpells}
 use Rattle.dsa_recording.specs.declared.stream.Submission.{Submission}
 use Rattle.dsa_recording.specs.declared.submission.Audited.{Audited}
 use Rattle.dsa_recording.specs.Entries.{entry_reads, entry_targets}
 use Rattle.dsa_recording.specs.EntryWords.{operation_words}
+use Rattle.dsa_recording.specs.Failures.{checks_result}
+use Rattle.dsa_recording.specs.Totals.{member_count}
 use Rattle.dsa_recording.specs.Words.{unseen_words}
 
 -- ---- the operation of an entry
@@ -37,7 +40,16 @@ abbrev pub record_in_list : ℕ → List ℕ → ℕ
 record_in_list number e =
     if bit_and (flags_at e) required_flags == required_flags then u64_at 8 e else records_from + 32 * number
 
--- the operation with the expected result 0: no conflict rests on it, and a recorded one may be none that a list has
+-- the operation is a compare with the flag check result, whose status says whether it found what it expects
+abbrev pub is_checked : Op → ℕ → Bool
+is_checked (Move src dst) flags = false
+is_checked (Fill pattern dst) flags = false
+is_checked (Compare src src2 expected) flags = checks_result flags
+is_checked (ComparePattern src pattern expected) flags = checks_result flags
+is_checked (ApplyDelta delta dst record_size) flags = false
+is_checked (Dualcast src dst dst2) flags = false
+
+-- the operation with the expected result 0
 abbrev pub expecting_zero : Op → Op
 expecting_zero (Move src dst) = Move src dst
 expecting_zero (Fill pattern dst) = Fill pattern dst
@@ -46,18 +58,32 @@ expecting_zero (ComparePattern src pattern expected) = ComparePattern src patter
 expecting_zero (ApplyDelta delta dst record_size) = ApplyDelta delta dst record_size
 expecting_zero (Dualcast src dst dst2) = Dualcast src dst dst2
 
+-- the operation as the list has it. Nothing rests on a result that is not checked, and a recorded one may be none that a list
+-- has, so it is 0
+abbrev pub op_in_list : Op → ℕ → Op
+op_in_list op flags = if is_checked op flags then op else expecting_zero op
+
+-- a list has no other expected results than 0 and 1
+abbrev pub expects_bit : Op → Bool
+expects_bit (Move src dst) = true
+expects_bit (Fill pattern dst) = true
+expects_bit (Compare src src2 expected) = nat_le expected 1
+expects_bit (ComparePattern src pattern expected) = nat_le expected 1
+expects_bit (ApplyDelta delta dst record_size) = true
+expects_bit (Dualcast src dst dst2) = true
+
 -- what the list has for the entry of this number: its operation, size and owner, with that record, and with no other
--- flags than a list requires
+-- flags than a list requires and check result, if a compare has that
 abbrev pub stand_in : ℕ → List ℕ → Op → Fields
 stand_in number e op =
     record {
       pasid = pasid_at e;
       privileged = privileged_at e;
-      flags = required_flags;
+      flags = flags_with 0 (is_checked op (flags_at e));
       record_at = record_in_list number e;
       size = u32_at 32 e;
       int_handle = 0;
-      op = expecting_zero op;
+      op = op_in_list op (flags_at e);
     }
 
 -- the span has no address, or lies below the records that entries of this number may get, or above them
@@ -87,7 +113,9 @@ abbrev pub known_line : ℕ → ℕ → List ℕ → Touched → Option Op → L
 known_line count number e t None = left_out number (plain_words (code_at e))
 known_line count number e t (Some op) =
     if is_apart_from_added count t
+    then (if expects_bit (op_in_list op (flags_at e))
     then operation_line number e op
+    else left_out number (codes "left out: its check expects another result than 0 or 1"))
     else left_out number (codes "left out: it touches addresses that this list keeps for records")
 
 -- the line of a member: its operation, or why there is none
@@ -119,17 +147,20 @@ member_lines es at (m ∷ ms) uses =
     ++ ((member_line (length es) at (slice_index_or es at []) m ++ 10 ∷ []) ++ member_lines es (suc at) ms (drop 1 uses))
 
 -- those of all submissions
-unfoldable pub listing_text : List (List ℕ) → List Submission → List Audited → List ℕ
-listing_text es [] audits = []
-listing_text es (s ∷ ss) [] = []
-listing_text es (s ∷ ss) (a ∷ audits) = member_lines es s.first a.members.items a.audit.reduced.uses.items ++ listing_text es ss audits
+unfoldable pub submission_lines : List (List ℕ) → List Submission → List Audited → List ℕ
+submission_lines es [] audits = []
+submission_lines es (s ∷ ss) [] = []
+submission_lines es (s ∷ ss) (a ∷ audits) = member_lines es s.first a.members.items a.audit.reduced.uses.items ++ submission_lines es ss audits
 
 -- ---- its operations
 
--- that of an entry that is looked at is in the list if it has one and is apart from added records
+-- that of an entry that is looked at is in the list if it has one that a list has and is apart from added records
 abbrev pub known_operation : ℕ → ℕ → List ℕ → Touched → Option Op → List Fields
 known_operation count number e t None = []
-known_operation count number e t (Some op) = if is_apart_from_added count t then stand_in number e op ∷ [] else []
+known_operation count number e t (Some op) =
+    if is_apart_from_added count t
+    then (if expects_bit (op_in_list op (flags_at e)) then stand_in number e op ∷ [] else [])
+    else []
 
 -- the operation of a member, if the list has it
 abbrev pub member_operation : ℕ → ℕ → List ℕ → Member → List Fields
@@ -146,6 +177,28 @@ unfoldable pub listed_operations : List (List ℕ) → List Submission → List 
 listed_operations es [] audits = []
 listed_operations es (s ∷ ss) [] = []
 listed_operations es (s ∷ ss) (a ∷ audits) = member_operations es s.first a.members.items ++ listed_operations es ss audits
+
+-- ---- the text
+
+-- a comment that says how many of the operations have no line
+abbrev pub left_words : ℕ → ℕ → List ℕ
+left_words left total =
+    codes "# left out: " ++ (decimal left ++ (codes " of " ++ (decimal total ++ codes " operations, each for the reason in its comment: no plan has them, and no cost counts them")))
+
+-- it is the first line, if there are some; of no operations it is said that the list is empty
+abbrev pub left_line : ℕ → ℕ → List ℕ
+left_line left total =
+    if total == 0
+    then codes "# this list is empty: the recording has no operations" ++ 10 ∷ []
+    else (if left == 0 then [] else left_words left total ++ 10 ∷ [])
+
+-- how many members have no operation in the list
+abbrev pub left_count : List (List ℕ) → List Submission → List Audited → ℕ
+left_count es ss audits = sum_by member_count audits - length (listed_operations es ss audits)
+
+-- the list of a recording
+abbrev pub listing_text : List (List ℕ) → List Submission → List Audited → List ℕ
+listing_text es ss audits = left_line (left_count es ss audits) (sum_by member_count audits) ++ submission_lines es ss audits
 
 -- ---- laws
 
@@ -181,3 +234,7 @@ AreEntries es [] [] = Unit
 AreEntries es (s ∷ ss) (a ∷ audits) = (s.first + length a.members.items ≤ length es) × AreEntries es ss audits
 AreEntries es [] (a ∷ audits) = ⊥
 AreEntries es (s ∷ ss) [] = ⊥
+
+-- what a line has after its owner if the result is checked
+abbrev pub check_words : Bool → List ℕ
+check_words checked = if checked then codes ", check" else []

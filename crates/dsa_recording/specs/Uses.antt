@@ -1,9 +1,10 @@
 -- Which accepted keys are used, and which lines with keys are stale (this project's choice).
-use Rattle.std.specs.Prelude.{ℕ, ◌≡◌, ◌<◌, ◌↔◌, ◌⊎◌, ◌+◌, ◌++◌, ◌&&◌, ◌||◌, ◌==◌, not, nat_le, Bool, true, false, List, [], ◌∷◌, codes, length, string_bytes, String, if◌then◌else◌}
+use Rattle.std.specs.Prelude.{ℕ, ◌≡◌, ◌<◌, ◌≤◌, ◌↔◌, ◌⊎◌, ◌+◌, ◌++◌, ◌&&◌, ◌||◌, ◌==◌, not, nat_le, Bool, true, false, List, [], ◌∷◌, codes, get_or, length, string_bytes, String, if◌then◌else◌}
 use Rattle.std.specs.List.{starts_with}
 use Rattle.std.specs.Global.{Global}
 use Rattle.dsa_audit.specs.declared.hazard.Hazards.{Hazards}
-use Rattle.dsa_audit.specs.Audits.{ShareEpoch}
+use Rattle.dsa_settings.specs.Plan.{Group}
+use Rattle.dsa_audit.specs.Audits.{HasFence, ShareEpoch}
 use Rattle.dsa_audit.specs.Members.{AreHazardsBetween}
 use Rattle.dsa_audit.specs.Repeats.{OrderMatters}
 use Rattle.dsa_recording.specs.declared.accepted.Accepted.{Accepted}
@@ -51,16 +52,11 @@ abbrev pub ExcusesSome : AuditOptions → List (List ℕ) → Reported → List 
 ExcusesSome options es r [] key = ⊥
 ExcusesSome options es r (f ∷ fs) key = Excuses options es r f key ⊎ ExcusesSome options es r fs key
 
--- one of the lines is the key
-abbrev pub HasLine : List (String Global) → List ℕ → Type 0
-HasLine [] key = ⊥
-HasLine (line ∷ lines) key = (key ≡ string_bytes line) ⊎ HasLine lines key
-
 -- the key is one that is accepted, and is used in the report on these entries: it takes a pair out, whether a finding shows it
 -- or not, or it is that of a finding which is an error without it
 abbrev pub IsUsed : AuditOptions → List (List ℕ) → Reported → List ℕ → Type 0
 IsUsed options es r key =
-    (HasLine options.accepted.now.lines.items key × TakesSomeOut es r.submissions r.audits key)
+    ((has_key options.accepted.now key ≡ true) × TakesSomeOut es r.submissions r.audits key)
     ⊎ ((has_key options.accepted.now key ≡ true) × ExcusesSome options es r r.findings key)
 
 -- these are the keys that are used
@@ -92,10 +88,40 @@ stale_from n with_events used (line ∷ lines) =
 
 -- ---- for private clauses
 
--- one of the lines is a key that takes a pair out of the submission
-abbrev pub LinesTakeOut : List (List ℕ) → Audited → List (String Global) → List ℕ → Type 0
-LinesTakeOut es a lines key = HasLine lines key × TakesOut es a key
-
 -- these keys, and those that are used besides
 abbrev pub AddsKeys : (List ℕ → Type 0) → Accepted → Accepted → Type 0
 AddsKeys P old new = (key : List ℕ) → (has_key new key ≡ true) ↔ ((has_key old key ≡ true) ⊎ P key)
+
+-- the two members need a fence that is not there: their order matters, and no recorded fence separates them
+abbrev pub NeedFence : Audited → ℕ → ℕ → Type 0
+NeedFence a i j = (i < j) × (j < length a.operands.items) × OrderMatters a.actions.items a.operands.items i j × ShareEpoch a.fences.items i j
+
+-- an accepted key takes a pair out of the submission
+abbrev pub TakesAcceptedOut : Accepted → List (List ℕ) → Audited → List ℕ → Type 0
+TakesAcceptedOut accepted es a key = (has_key accepted key ≡ true) × TakesOut es a key
+
+-- these two members
+abbrev pub TakesPairOut : Accepted → List (List ℕ) → Audited → ℕ → ℕ → List ℕ → Type 0
+TakesPairOut accepted es a i j key =
+    (has_key accepted key ≡ true) × ((t : TakesOut es a key) × (t.earlier ≡ i) × (t.later ≡ j))
+
+-- member j, with one of the first n of these
+abbrev pub TakesFirstOut : Accepted → List (List ℕ) → Audited → List ℕ → ℕ → ℕ → List ℕ → Type 0
+TakesFirstOut accepted es a members n j key = (k : ℕ) × (k < n) × TakesPairOut accepted es a (get_or members k 0) j key
+
+-- member j, with any
+abbrev pub TakesLaterOut : Accepted → List (List ℕ) → Audited → ℕ → List ℕ → Type 0
+TakesLaterOut accepted es a j key = (has_key accepted key ≡ true) × ((t : TakesOut es a key) × (t.later ≡ j))
+
+-- one of the members before j
+abbrev pub TakesBelowOut : Accepted → List (List ℕ) → Audited → ℕ → List ℕ → Type 0
+TakesBelowOut accepted es a j key = (has_key accepted key ≡ true) × ((t : TakesOut es a key) × (t.later < j))
+
+-- the epoch of member k as recorded begins with member `epoch`
+abbrev pub IsEpochOf : Group → ℕ → ℕ → Type 0
+IsEpochOf g k epoch = (epoch ≤ k) × ShareEpoch g epoch k × (0 < epoch → HasFence g epoch)
+
+-- that of the member before it does, if there is one
+abbrev pub IsEpochBefore : Group → ℕ → ℕ → Type 0
+IsEpochBefore g k epoch =
+    (epoch ≤ k) × ((m : ℕ) → epoch < m → m < k → ¬ HasFence g m) × (0 < epoch → HasFence g epoch)

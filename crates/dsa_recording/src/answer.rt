@@ -230,6 +230,7 @@ fn answer_list(
 ) -> Result<AuditAnswer, AllocError>
     requires entries { AreEntries all.now report.now.submissions.items report.now.audits.items }
     requires few { length all.now ≤ 2 ^ 58 }
+    requires sums { HasSums report.now }
     ensures { IfOk result (AnswersFormat Listed options.entry all.now (reported_by report.now)) }
 {
     let text = listing_text(alloc, all, report)?;

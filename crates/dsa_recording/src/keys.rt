@@ -3,7 +3,7 @@
 ghost use Rattle.std.specs.Prelude.{◌≡◌, ◌++◌, IfOk, OnOk, codes, slice_get, string_bytes};
 ghost use Rattle.dsa_recording.specs.Details.{named_by};
 ghost use Rattle.dsa_recording.specs.Furthers.{code_name};
-ghost use Rattle.dsa_recording.specs.EntryKeys.{asked_name, batch_key, entry_key, fence_key, fence_words, hazard_names, key_of_entry, member_key, name_or_code, operation_name};
+ghost use Rattle.dsa_recording.specs.EntryKeys.{asked_name, batch_key, entry_key, fence_front, fence_key, fence_words, hazard_names, key_of_entry, member_key, name_or_code, operation_name};
 ghost use Rattle.dsa_recording.specs.Keys.{cause_key, flaw_key, key_words, other_key, others_key, place_key};
 
 use crate::detail::{Cause, Detail, named_by};
@@ -214,14 +214,16 @@ pub fn fence_key(
     Ok(text)
 }
 
-/// How the keys begin of missing fences before member `later` of a batch with these entries, up to the number of the
-/// earlier member.
-pub(crate) fn fence_keys_begin(
+/// What the keys begin with of missing fences before member `later` of a batch with these entries, which has these
+/// hazards with an earlier one: what comes before the number of that.
+pub(crate) fn fence_front(
     alloc: Global,
     entries: &[[u8; 64]],
     later: usize,
     hazards: Hazards,
-) -> Result<String, AllocError> {
+) -> Result<String, AllocError>
+    ensures { IfOk result (λ s. string_bytes s ≡ fence_front entries.now later hazards) }
+{
     let mut text = fence_words(alloc, hazards)?;
     text.push_str(&batch_key(alloc, entries.len())?)?;
     text.push_str(&member_key(alloc, entries, 0, later)?)?;

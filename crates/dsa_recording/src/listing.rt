@@ -2,18 +2,20 @@
 
 ghost use Rattle.std.specs.Prelude.{ℕ, ◌≡◌, ◌≤◌, ◌<◌, ◌^◌, ◌+◌, ◌*◌, ◌++◌, ◌∷◌, [], length, slice_index_or, IfOk, MatchOption, OnOk, codes, decimal, string_bytes};
 ghost use Rattle.dsa_audit.specs.declared.needless.FenceUse.TheVariants.{NoFence};
-ghost use Rattle.std.specs.List.{list_all};
+ghost use Rattle.std.specs.List.{list_all, sum_by};
 ghost use Rattle.dsa_descriptor.specs.Places.{code_at, op_at, pasid_at, privileged_at};
 ghost use Rattle.dsa_lines.specs.Text.{line_text};
-ghost use Rattle.dsa_recording.specs.Listings.{record_in_list, stand_in, is_clear, expecting_zero, is_apart_from_added, left_out, operation_line, plain_words, barrier_for, fence_line, known_line, member_line, member_lines, listing_text, AreEntries, StandInsConflict, ListingIsRead};
+ghost use Rattle.dsa_recording.specs.Listings.{record_in_list, is_checked, check_words, stand_in, is_clear, expecting_zero, op_in_list, expects_bit, is_apart_from_added, left_out, operation_line, plain_words, barrier_for, fence_line, known_line, known_operation, member_line, member_lines, submission_lines, member_operation, member_operations, listed_operations, left_line, listing_text, AreEntries, StandInsConflict, ListingIsRead};
+ghost use Rattle.dsa_recording.specs.Totals.{HasSums, member_count};
 
 use crate::entry::{Header, RECORD_REQUESTED};
 use crate::entry_words::operation_text;
 use crate::report::Report;
+use crate::totals::members_in;
 use crate::words::unseen_text;
 use bitflags::Flags;
 use dsa_audit::{FenceUse, Member};
-use dsa_descriptor::{Op, Span, op_at};
+use dsa_descriptor::{FlagWord, Op, Span, op_at};
 use dsa_ranges::Touched;
 use std::alloc::{AllocError, Global};
 
@@ -89,6 +91,46 @@ fn expecting_zero(op: Op) -> Op
     }
 }
 
+/// Whether an operation is a compare whose result is checked.
+fn is_checked(op: Op, flags: FlagWord) -> bool
+    ensures { result ≡ is_checked op flags.0 }
+{
+    match op {
+        Op::Compare { .. } | Op::ComparePattern { .. } => flags.contains(FlagWord::CHECK_RESULT),
+        Op::Move { .. } | Op::Fill { .. } | Op::ApplyDelta { .. } | Op::Dualcast { .. } => false,
+    }
+}
+
+/// The operation of an entry as a list has it: a compare expects 0 unless its result is checked.
+fn op_in_list(op: Op, flags: FlagWord) -> Op
+    ensures { result ≡ op_in_list op flags.0 }
+{
+    if is_checked(op, flags) {
+        return op;
+    }
+    expecting_zero(op)
+}
+
+/// Whether no other result than 0 or 1 is expected.
+fn expects_bit(op: Op) -> bool
+    ensures { result ≡ expects_bit op }
+{
+    match op {
+        Op::Compare { expected, .. } | Op::ComparePattern { expected, .. } => expected <= 1,
+        Op::Move { .. } | Op::Fill { .. } | Op::ApplyDelta { .. } | Op::Dualcast { .. } => true,
+    }
+}
+
+/// Writes that the result is checked, if it is.
+fn push_check(line: &mut String, is_checked: bool) -> Result<(), AllocError>
+    ensures { OnOk result (string_bytes line.new ≡ string_bytes line.old ++ check_words is_checked) }
+{
+    if !is_checked {
+        return Ok(());
+    }
+    line.push_str(", check")
+}
+
 /// The operation that stands for an entry, as a line.
 fn stand_in_text(
     alloc: Global,
@@ -100,11 +142,19 @@ fn stand_in_text(
     ensures { IfOk result (λ line. string_bytes line ≡
         line_text (stand_in number entry.now op.now)) }
 {
-    let Header { owner, size, .. } = Header::of(entry);
+    let Header {
+        owner,
+        flags,
+        size,
+        ..
+    } = Header::of(entry);
     let record_at = record_in_list(entry, number);
     let (pasid, privileged) = (owner % (1 << 20), owner >> 31 == 1);
-    let op = expecting_zero(*op);
-    dsa_lines::operation_line(alloc, &op, size, record_at, pasid, privileged)
+    let is_checked = is_checked(*op, flags);
+    let op = op_in_list(*op, flags);
+    let mut line = dsa_lines::operation_line(alloc, &op, size, record_at, pasid, privileged)?;
+    push_check(&mut line, is_checked)?;
+    Ok(line)
 }
 
 /// The line of the operation of an entry, with the entry's number.
@@ -158,10 +208,14 @@ fn known_line(
     let Some(op) = op_at(entry) else {
         return plain_line(alloc, number, entry);
     };
-    if is_apart_from_added(count, touched) {
+    if !is_apart_from_added(count, touched) {
+        let why = "left out: it touches addresses that this list keeps for records";
+        return left_out(alloc, number, why);
+    }
+    if expects_bit(op_in_list(op, Header::of(entry).flags)) {
         return operation_line(alloc, number, entry, &op);
     }
-    let why = "left out: it touches addresses that this list keeps for records";
+    let why = "left out: its check expects another result than 0 or 1";
     left_out(alloc, number, why)
 }
 
@@ -262,8 +316,116 @@ fn push_members(
     Ok(())
 }
 
+/// How many operations the list has of an entry that is looked at: one or none.
+fn known_count(count: usize, entry: &[u8; 64], touched: &Touched) -> usize
+    requires { count ≤ 2 ^ 58 }
+    ensures value { (number : ℕ) → result ≡
+        length (known_operation count number entry.now touched.now (op_at entry.now)) }
+    ensures few { result ≤ 1 }
+{
+    let Some(op) = op_at(entry) else {
+        return 0;
+    };
+    if !is_apart_from_added(count, touched) {
+        return 0;
+    }
+    if expects_bit(op_in_list(op, Header::of(entry).flags)) {
+        return 1;
+    }
+    0
+}
+
+/// How many operations the list has of a member: one or none.
+fn listed_count(count: usize, entry: &[u8; 64], member: &Member) -> usize
+    requires { count ≤ 2 ^ 58 }
+    ensures value { (number : ℕ) → result ≡
+        length (member_operation count number entry.now member.now) }
+    ensures few { result ≤ 1 }
+{
+    match member {
+        Member::Known(touched) => known_count(count, entry, touched),
+        Member::Unknown(_) => 0,
+    }
+}
+
+/// How many operations the list has of members, of which the first is entry `first`.
+fn listed_of(all: &[[u8; 64]], first: usize, members: &[Member]) -> usize
+    requires within { first + length members.now ≤ length all.now }
+    requires few { length all.now ≤ 2 ^ 58 }
+    ensures value { result ≡ length (member_operations all.now first members.now) }
+    ensures few { result ≤ length members.now }
+{
+    let mut listed = 0;
+    for member in 0..members.len() {
+        listed += listed_count(all.len(), &all[first + member], &members[member]);
+    }
+    listed
+}
+
+/// How many operations the list has of all submissions.
+fn listed_in(all: &[[u8; 64]], report: &Report) -> usize
+    requires entries { AreEntries all.now report.now.submissions.items report.now.audits.items }
+    requires few { length all.now ≤ 2 ^ 58 }
+    requires sums { HasSums report.now }
+    ensures value { result ≡
+        length (listed_operations all.now report.now.submissions.items report.now.audits.items) }
+    ensures few { result ≤ sum_by member_count report.now.audits.items }
+{
+    let mut listed = 0;
+    for number in 0..report.audits.len() {
+        listed += listed_of(
+            all,
+            report.submissions[number].first,
+            &report.audits[number].members,
+        );
+    }
+    listed
+}
+
+/// The line that says how many of the operations are left out, none if that is 0, or that there are no operations.
+fn left_text(alloc: Global, left: usize, total: usize) -> Result<String, AllocError>
+    ensures { IfOk result (λ text. string_bytes text ≡ left_line left total) }
+{
+    if total == 0 {
+        return String::from_str(
+            alloc,
+            "# this list is empty: the recording has no operations\n",
+        );
+    }
+    if left == 0 {
+        return Ok(String::new(alloc));
+    }
+    let mut line = format!(in alloc;
+        "# left out: {left} of {total} operations, each for the reason in its comment: \
+         no plan has them, and no cost counts them"
+    )?;
+    line.push_str("\n")?;
+    Ok(line)
+}
+
+/// Writes the lines of all submissions.
+fn push_submissions(
+    alloc: Global,
+    text: &mut String,
+    all: &[[u8; 64]],
+    report: &Report,
+) -> Result<(), AllocError>
+    requires entries { AreEntries all.now report.now.submissions.items report.now.audits.items }
+    requires few { length all.now ≤ 2 ^ 58 }
+    ensures { OnOk result (string_bytes text.new ≡ string_bytes text.old ++
+        submission_lines all.now report.now.submissions.items report.now.audits.items) }
+{
+    for number in 0..report.audits.len() {
+        let first = report.submissions[number].first;
+        let audited = &report.audits[number];
+        let uses = &audited.audit.reduced.uses;
+        push_members(alloc, text, all, first, &audited.members, uses)?;
+    }
+    Ok(())
+}
+
 /// The operations of a report on these entries, as a list to plan, with a barrier for each fence
-/// that guards or signals.
+/// that guards or signals, and before them how many are left out.
 pub(crate) fn listing_text(
     alloc: Global,
     all: &[[u8; 64]],
@@ -271,16 +433,14 @@ pub(crate) fn listing_text(
 ) -> Result<String, AllocError>
     requires entries { AreEntries all.now report.now.submissions.items report.now.audits.items }
     requires few { length all.now ≤ 2 ^ 58 }
+    requires sums { HasSums report.now }
     ensures { IfOk result (λ text. string_bytes text ≡
         listing_text all.now report.now.submissions.items report.now.audits.items) }
 {
-    let mut text = String::new(alloc);
-    for number in 0..report.audits.len() {
-        let first = report.submissions[number].first;
-        let audited = &report.audits[number];
-        let uses = &audited.audit.reduced.uses;
-        push_members(alloc, &mut text, all, first, &audited.members, uses)?;
-    }
+    let total = members_in(&report.audits);
+    let left = total - listed_in(all, report);
+    let mut text = left_text(alloc, left, total)?;
+    push_submissions(alloc, &mut text, all, report)?;
     Ok(text)
 }
 

@@ -64,7 +64,7 @@ fn lone_in(submissions: &[Submission]) -> usize
 }
 
 /// How many members all submissions have.
-fn members_in(audits: &[Audited]) -> usize
+pub(crate) fn members_in(audits: &[Audited]) -> usize
     requires { sum_by member_count audits.now < 2 ^ 64 }
     ensures { result ≡ sum_by member_count audits.now }
 {

@@ -1,218 +1,188 @@
 //! Which accepted keys are used.
 
-ghost use Rattle.std.specs.Prelude.{◌≡◌, ◌↔◌, ◌<◌, ◌^◌, ◌++◌, ◌∷◌, ℕ, List, All, IfOk, IsTrue, MatchOption, OnOk, Some, true, codes, decimal, length, slice_get};
-ghost use Rattle.dsa_audit.specs.declared.hazard.Hazards.{Hazards};
-ghost use Rattle.dsa_audit.specs.Audits.{HasFence, IsCorrected, ShareEpoch};
+ghost use Rattle.std.specs.Prelude.{◌≡◌, ◌↔◌, ◌<◌, ◌≤◌, ◌+◌, ℕ, List, All, IfOk, IsTrue, OnOk, length, true};
+ghost use Rattle.dsa_audit.specs.Audits.{IsCorrected};
+ghost use Rattle.dsa_audit.specs.Members.{KnownConflict};
 ghost use Rattle.dsa_audit.specs.Repeats.{OrderMatters};
+ghost use Rattle.dsa_audit.specs.Steps.{AreLasts};
+ghost use Rattle.dsa_conflicts.specs.Access.{IsGreatest};
 ghost use Rattle.dsa_recording.specs.Answers.{ArePlaced};
 ghost use Rattle.dsa_recording.specs.Details.{IsPlaced};
 ghost use Rattle.dsa_recording.specs.Freed.{HasAudits};
-ghost use Rattle.dsa_recording.specs.EntryKeys.{batch_key, entry_key, fence_key, fence_words};
 ghost use Rattle.dsa_recording.specs.Pairs.{has_key};
 ghost use Rattle.dsa_recording.specs.Reports.{reported_by};
-ghost use Rattle.dsa_recording.specs.Submissions.{IsWithin, members_in};
-ghost use Rattle.dsa_recording.specs.Uses.{AddsKeys, Excuses, ExcusesSome, HasLine, AreUsed, IsUsed, LinesTakeOut, TakesOut, TakesSomeOut};
+ghost use Rattle.dsa_recording.specs.Submissions.{IsWithin};
+ghost use Rattle.dsa_recording.specs.Uses.{AddsKeys, AreUsed, Excuses, ExcusesSome, IsEpochBefore, IsEpochOf, IsUsed, NeedFence, TakesAcceptedOut, TakesBelowOut, TakesFirstOut, TakesLaterOut, TakesPairOut, TakesSomeOut};
 
 use crate::accepted::Accepted;
 use crate::answer::{AuditOptions, is_harmless};
 use crate::detail::{are_right, detail_of};
 use crate::findings::Finding;
-use crate::keys::{entry_key, fence_key, key_text};
-use crate::pairs::number_before;
+use crate::keys::{fence_key, key_text};
+use crate::pairs::named_with;
 use crate::report::Report;
 use crate::submission::Audited;
-use dsa_audit::{OrderedConflicts, Relation, hazards_between};
+use dsa_audit::{OrderedConflicts, Relation, all_lasts, hazards_between};
 use std::alloc::{AllocError, Global};
 
-/// The later member that the key of a missing fence in a batch of so many members names, and what comes after its
-/// number.
-fn named_later(alloc: Global, size: usize, key: &str) -> Result<Option<(usize, &str)>, AllocError>
-    ensures { IfOk result (λ named. (hazards : Hazards) (later : ℕ) (rest : List ℕ) →
-        later < 2 ^ 64 →
-        key.now ≡ fence_words hazards ++ (batch_key size ++ (codes "; member " ++
-        (decimal later ++ (58 ∷ rest)))) →
-        MatchOption named ⊥ (λ found. (found.0 ≡ later) × (found.1.now ≡ rest))) }
-{
-    let Some((_, rest)) = key.split_once(';') else {
-        return Ok(None);
-    };
-    let begin = format!(in alloc; " batch of {size}; member ")?;
-    match rest.strip_prefix(begin.as_str()) {
-        Some(rest) => Ok(number_before(rest)),
-        None => Ok(None),
-    }
-}
-
-/// The earlier member that a key names, by what comes after the number of the later one.
-fn named_earlier(
+/// An audited submission, the entries of its members, and the keys that are accepted.
+#[derive(Clone, Copy)]
+struct Judged<'a> {
     alloc: Global,
-    entries: &[[u8; 64]],
-    later: usize,
-    rest: &str,
-) -> Result<Option<usize>, AllocError>
-    ensures { IfOk result (λ named. (earlier : ℕ) (more : List ℕ) → earlier < 2 ^ 64 →
-        rest.now ≡ codes " " ++ (entry_key (slice_get entries.now later)
-        ++ (codes "; member " ++ (decimal earlier ++ (58 ∷ more)))) →
-        named ≡ Some earlier) }
-{
-    let member = entry_key(alloc, entries, later)?;
-    let begin = format!(in alloc; " {member}; member ")?;
-    let Some(rest) = rest.strip_prefix(begin.as_str()) else {
-        return Ok(None);
-    };
-    match number_before(rest) {
-        Some((earlier, _)) => Ok(Some(earlier)),
-        None => Ok(None),
-    }
+    accepted: &'a Accepted,
+    entries: &'a [[u8; 64]],
+    audited: &'a Audited,
 }
 
-/// The two members that the key of a missing fence in a batch of these entries names, the earlier one first.
-fn named_pair(
-    alloc: Global,
-    entries: &[[u8; 64]],
-    key: &str,
-) -> Result<Option<(usize, usize)>, AllocError>
-    ensures { IfOk result (λ named. (earlier later : ℕ) (hazards : Hazards) →
-        earlier < 2 ^ 64 → later < 2 ^ 64 →
-        key.now ≡ fence_key entries.now earlier later hazards →
-        named ≡ Some (earlier, later)) }
+/// The first member of the epoch of a member as recorded, by that of the member before.
+fn epoch_after(fences: &[bool], epoch: usize, member: usize) -> usize
+    requires within { member < length fences.now }
+    requires before { IsEpochBefore fences.now member epoch }
+    ensures { IsEpochOf fences.now member result }
 {
-    let Some((later, rest)) = named_later(alloc, entries.len(), key)? else {
-        return Ok(None);
-    };
-    match named_earlier(alloc, entries, later, rest)? {
-        Some(earlier) => Ok(Some((earlier, later))),
-        None => Ok(None),
-    }
-}
-
-/// Whether there is a fence before the member of this number.
-fn has_fence(fences: &[bool], member: usize) -> bool
-    ensures { IsTrue result ↔ HasFence fences.now member }
-{
-    fences.get(member).copied().unwrap_or(false)
-}
-
-/// Whether no fence separates the later member from the earlier one.
-fn share_epoch(fences: &[bool], earlier: usize, later: usize) -> bool
-    ensures { IsTrue result ↔ ShareEpoch fences.now earlier later }
-{
-    for before in earlier..later {
-        if has_fence(fences, before + 1) {
-            return false;
-        }
-    }
-    true
+    if fences[member] { member } else { epoch }
 }
 
 /// Whether these members of a submission need a fence that is not there: their order matters, and no recorded fence
-/// separates them.
-fn need_a_fence(audited: &Audited, earlier: usize, later: usize) -> bool
-    ensures { IsTrue result ↔ ((earlier < later) × (later < length audited.now.operands.items)
-        × OrderMatters audited.now.actions.items audited.now.operands.items earlier later
-        × ShareEpoch audited.now.fences.items earlier later) }
+/// separates them. The epoch of the later one begins with member `epoch`.
+fn need_a_fence(audited: &Audited, epoch: usize, earlier: usize, later: usize) -> bool
+    requires within { later < length audited.now.operands.items }
+    requires epoch { IsEpochOf audited.now.fences.items later epoch }
+    ensures { IsTrue result ↔ NeedFence audited.now earlier later }
 {
-    if earlier >= later {
+    if earlier < epoch {
         return false;
     }
-    if later >= audited.operands.len() {
+    if earlier >= later {
         return false;
     }
     let relation = OrderedConflicts {
         actions: &audited.actions,
         members: &audited.operands,
     };
-    if !relation.conflicts(earlier, later) {
-        return false;
-    }
-    share_epoch(&audited.fences, earlier, later)
+    relation.conflicts(earlier, later)
 }
 
-/// Whether a key takes a pair out of those that need a fence in an audited submission whose members have these entries.
-fn takes_out(
-    alloc: Global,
-    entries: &[[u8; 64]],
-    audited: &Audited,
-    key: &str,
-) -> Result<bool, AllocError>
-    ensures { IfOk result (λ yes. IsTrue yes ↔ TakesOut entries.now audited.now key.now) }
-{
-    let Some((earlier, later)) = named_pair(alloc, entries, key)? else {
-        return Ok(false);
-    };
-    if !need_a_fence(audited, earlier, later) {
-        return Ok(false);
-    }
-    let hazards = hazards_between(&audited.operands, earlier, later);
-    let own = fence_key(alloc, entries, earlier, later, hazards)?;
-    Ok(own.as_str() == key)
-}
-
-/// Adds a line, if it is a key that takes a pair out of a submission. One that is there already is not looked at again.
-fn use_line(
-    alloc: Global,
-    line: &str,
-    entries: &[[u8; 64]],
-    audited: &Audited,
+/// Adds the key of two members, if it is accepted and takes them out of those that need a fence.
+fn use_pair(
+    judged: Judged<'_>,
+    epoch: usize,
+    earlier: usize,
+    later: usize,
     used: &mut Accepted,
 ) -> Result<(), AllocError>
-    ensures { OnOk result (AddsKeys
-        (λ key. (key ≡ line.now) × TakesOut entries.now audited.now key) used.old used.new) }
+    requires within { later < length judged.audited.now.operands.items }
+    requires epoch { IsEpochOf judged.audited.now.fences.items later epoch }
+    ensures { OnOk result (AddsKeys (TakesPairOut judged.entry.accepted.now
+        judged.entry.entries.now judged.entry.audited.now earlier later) used.old used.new) }
 {
-    if used.has(line) {
+    if !need_a_fence(judged.audited, epoch, earlier, later) {
         return Ok(());
     }
-    if !takes_out(alloc, entries, audited, line)? {
+    let hazards = hazards_between(&judged.audited.operands, earlier, later);
+    let key = fence_key(judged.alloc, judged.entries, earlier, later, hazards)?;
+    if !judged.accepted.has(&key) {
         return Ok(());
     }
-    used.add(alloc, line)
+    used.add(judged.alloc, &key)
 }
 
-/// Adds the keys of these lines that take a pair out of a submission.
-fn use_pairs(
-    alloc: Global,
-    lines: &[String],
-    entries: &[[u8; 64]],
-    audited: &Audited,
+/// Adds those of these earlier members with a later one.
+fn use_members(
+    judged: Judged<'_>,
+    epoch: usize,
+    members: &[usize],
+    later: usize,
     used: &mut Accepted,
 ) -> Result<(), AllocError>
-    ensures { OnOk result
-        (AddsKeys (LinesTakeOut entries.now audited.now lines.now) used.old used.new) }
+    requires within { later < length judged.audited.now.operands.items }
+    requires epoch { IsEpochOf judged.audited.now.fences.items later epoch }
+    ensures { OnOk result (AddsKeys (TakesFirstOut judged.entry.accepted.now
+        judged.entry.entries.now judged.entry.audited.now members.now (length members.now) later)
+        used.old used.new) }
 {
-    let mut rest = lines;
-    while let [line, after @ ..] = rest {
-        use_line(alloc, line, entries, audited, used)?;
-        rest = after;
+    for at in 0..members.len() {
+        use_pair(judged, epoch, members[at], later, used)?;
     }
     Ok(())
 }
 
-/// Adds those of a submission with these entries. One that lacks no fence if nothing is accepted has none of them.
-fn use_submission(
-    alloc: Global,
-    lines: &[String],
-    entries: &[[u8; 64]],
-    audited: &Audited,
+/// Whether a member is known to conflict with one of its epoch, which begins with member `epoch`; `last` is the last
+/// before it that is known to conflict with it.
+fn is_within(last: Option<usize>, epoch: usize) -> bool
+    ensures { ¬ IsTrue result → (i : ℕ) → last ≡ Some i → i < epoch }
+{
+    match last {
+        Some(last) => epoch <= last,
+        None => false,
+    }
+}
+
+/// Adds those of a member with all earlier ones; `last` is the last that is known to conflict with it.
+fn use_later(
+    judged: Judged<'_>,
+    epoch: usize,
+    last: Option<usize>,
+    later: usize,
     used: &mut Accepted,
 ) -> Result<(), AllocError>
-    requires corrected { IsCorrected
-        (OrderMatters audited.now.actions.items audited.now.operands.items)
-        audited.now.fences.items audited.now.audit.unaccepted.places.items
-        audited.now.audit.unaccepted.fences.items }
-    requires known { length audited.now.fences.items ≡ length audited.now.operands.items }
-    ensures { OnOk result
-        (AddsKeys (LinesTakeOut entries.now audited.now lines.now) used.old used.new) }
+    requires within { later < length judged.audited.now.operands.items }
+    requires epoch { IsEpochOf judged.audited.now.fences.items later epoch }
+    requires last { IsGreatest
+        (λ a. (a < later) × KnownConflict judged.audited.now.operands.items a later) last }
+    ensures { OnOk result (AddsKeys (TakesLaterOut judged.entry.accepted.now
+        judged.entry.entries.now judged.entry.audited.now later) used.old used.new) }
 {
-    if are_right(&audited.audit.unaccepted.places) {
+    if !is_within(last, epoch) {
         return Ok(());
     }
-    use_pairs(alloc, lines, entries, audited, used)
+    let members = named_with(judged.alloc, judged.accepted, judged.entries, later)?;
+    use_members(judged, epoch, &members, later, used)
+}
+
+/// Adds those of all members of a submission; `lasts` has the last conflict of each.
+fn use_pairs(
+    judged: Judged<'_>,
+    lasts: &[Option<usize>],
+    used: &mut Accepted,
+) -> Result<(), AllocError>
+    requires known { length judged.audited.now.fences.items ≡
+        length judged.audited.now.operands.items }
+    requires count { length lasts.now ≡ length judged.audited.now.operands.items }
+    requires lasts { AreLasts (KnownConflict judged.audited.now.operands.items) lasts.now }
+    ensures { OnOk result (AddsKeys (TakesAcceptedOut judged.entry.accepted.now
+        judged.entry.entries.now judged.entry.audited.now) used.old used.new) }
+{
+    let mut epoch = 0;
+    for later in 0..lasts.len() {
+        epoch = epoch_after(&judged.audited.fences, epoch, later);
+        use_later(judged, epoch, lasts[later], later, used)?;
+    }
+    Ok(())
+}
+
+/// Adds those of a submission. One that lacks no fence if nothing is accepted has none of them.
+fn use_submission(judged: Judged<'_>, used: &mut Accepted) -> Result<(), AllocError>
+    requires corrected { IsCorrected
+        (OrderMatters judged.audited.now.actions.items judged.audited.now.operands.items)
+        judged.audited.now.fences.items judged.audited.now.audit.unaccepted.places.items
+        judged.audited.now.audit.unaccepted.fences.items }
+    requires known { length judged.audited.now.fences.items ≡
+        length judged.audited.now.operands.items }
+    ensures { OnOk result (AddsKeys (TakesAcceptedOut judged.entry.accepted.now
+        judged.entry.entries.now judged.entry.audited.now) used.old used.new) }
+{
+    if are_right(&judged.audited.audit.unaccepted.places) {
+        return Ok(());
+    }
+    let lasts = all_lasts(judged.alloc, &judged.audited.operands)?;
+    use_pairs(judged, &lasts, used)
 }
 
 /// Adds those that take a pair out of a submission of the report.
 fn use_all_pairs(
     alloc: Global,
-    lines: &[String],
+    accepted: &Accepted,
     all: &[[u8; 64]],
     report: &Report,
     used: &mut Accepted,
@@ -220,14 +190,19 @@ fn use_all_pairs(
     requires within { All (IsWithin all.now) report.now.submissions.items }
     requires audited { HasAudits all.now report.now }
     ensures { OnOk result (AddsKeys
-        (λ key. HasLine lines.now key
+        (λ key. (has_key accepted.now key ≡ true)
         × TakesSomeOut all.now report.now.submissions.items report.now.audits.items key)
         used.old used.new) }
 {
     for number in 0..report.submissions.len() {
         let submission = report.submissions[number];
-        let entries = &all[submission.first..submission.first + submission.size];
-        use_submission(alloc, lines, entries, &report.audits[number], used)?;
+        let judged = Judged {
+            alloc,
+            accepted,
+            entries: &all[submission.first..submission.first + submission.size],
+            audited: &report.audits[number],
+        };
+        use_submission(judged, used)?;
     }
     Ok(())
 }
@@ -294,10 +269,10 @@ pub(crate) fn use_report(
     ensures { OnOk result (AddsKeys
         (IsUsed options.entry all.now (reported_by report.now)) used.old used.new) }
 {
-    if options.accepted.lines.is_empty() && options.accepted.keys.is_empty() {
+    if options.accepted.keys.is_empty() {
         return Ok(());
     }
-    use_all_pairs(alloc, &options.accepted.lines, all, report, used)?;
+    use_all_pairs(alloc, options.accepted, all, report, used)?;
     use_findings(alloc, options, all, report, used)
 }
 

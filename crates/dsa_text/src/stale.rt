@@ -79,7 +79,8 @@ fn line_at(accepted: &Accepted, number: usize) -> &str {
 impl<'a> Stale<'a> {
     /// The status with these lines: 1 in place of 0, if there are some and they are denied.
     pub(crate) fn status(&self, status: u8) -> u8
-        ensures { result ≡ stale_status self.entry.now.is_denied self.entry.now.numbers.items status }
+        ensures { result ≡
+            stale_status self.entry.now.is_denied self.entry.now.numbers.items status }
     {
         if self.is_denied && !self.numbers.is_empty() {
             return status.max(1);

@@ -1,9 +1,0 @@
-use Rattle.std.proofs.Common.{◌≡◌, take}
-use Rattle.std.specs.Prelude.{string_bytes}
-use Rattle.dsa_recording.specs.Listings.{listing_text}
-use Rattle.dsa_recording.proofs.listing.listing_text.Given as goal
-
--- the lines of the submissions so far
-abbrev pub invariant-loop-number : goal.invariant-loop-number
-invariant-loop-number l =
-    string_bytes l.text ≡ listing_text l.all (take l.number l.report.submissions.items) (take l.number l.report.audits.items)

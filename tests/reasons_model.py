@@ -13,7 +13,7 @@ from collections import Counter
 import model
 from common import program
 from resume_model import drawn_list
-from dsa_planner import BEGINS, FENCED, Settings, plan_list_certified
+from dsa_planner import BEGINS, FENCED, plan_list_certified
 from dsa_reasons import OVERLAP, SHARED_RECORD, UNCHECKED, UNGUARDED, Conflict, ListWarning, Reason, explain_list
 from dsa_reasons import warn_list
 
@@ -146,14 +146,7 @@ def explained(seed):
     """One list; answers the kinds of its reasons."""
     draw = random.Random(seed)
     records, transfer = draw.choice(("apart", "shared", "among data")), draw.choice((8, 4096))
-    ops = drawn_list(draw, records, transfer)
-    asked = [draw.random() < 0.3 for _ in ops] if draw.random() < 0.5 else [False] * len(ops)
-    rules = {"lone": draw.choice((1, 10)), "batch": 14, "fence": draw.choice((0, 3, 20)), "staging": 0x100000}
-    settings = Settings(greatest_batch=draw.randrange(2, 6), greatest_transfer=transfer, **rules)
-    given = b"".join(op.bytes(fenced) for op, fenced in zip(ops, asked))
-    split = [model.pieces_of(op, transfer) for op in ops]
-    pieces = [piece for part in split for piece in part]
-    barriers = [fenced and place == 0 for part, fenced in zip(split, asked) for place in range(len(part))]
+    settings, given, pieces, barriers = drawn_list(draw, records, transfer)
     reasons, marks = explain_list(settings, given), plan_list_certified(settings, given).marks
     wrong = fault(pieces, marks, [False, *barriers[1:]], reasons)
     expect(not wrong, seed, wrong)

@@ -38,7 +38,7 @@ def drawn_op(draw, number, count, space, records):
     return Op(code, size, places[records], first, second, own, flags)
 
 
-def drawn_list(draw, records, transfer):
+def drawn_ops(draw, records, transfer):
     count, space = draw.randrange(2, 9), draw.choice((24, 64, 128, 512))
     ops = []
     while len(ops) < count:
@@ -46,6 +46,19 @@ def drawn_list(draw, records, transfer):
         if model.fits(op, transfer):
             ops.append(op)
     return ops
+
+
+def drawn_list(draw, records, transfer):
+    """Settings, the bytes of a list, half of them with barriers, its pieces, and which have a barrier before them."""
+    ops = drawn_ops(draw, records, transfer)
+    asked = [draw.random() < 0.3 for _ in ops] if draw.random() < 0.5 else [False] * len(ops)
+    rules = {"lone": draw.choice((1, 10)), "batch": 14, "fence": draw.choice((0, 3, 20)), "staging": 0x100000}
+    settings = Settings(greatest_batch=draw.randrange(2, 6), greatest_transfer=transfer, **rules)
+    given = b"".join(op.bytes(fenced) for op, fenced in zip(ops, asked))
+    split = [model.pieces_of(op, transfer) for op in ops]
+    pieces = [piece for part in split for piece in part]
+    barriers = [fenced and place == 0 for part, fenced in zip(split, asked) for place in range(len(part))]
+    return settings, given, pieces, barriers
 
 
 def first_sharing(pieces):
@@ -229,14 +242,7 @@ def stopped(seed):
     """One list; answers what came of it."""
     draw = random.Random(seed)
     records, transfer = draw.choice(("apart", "apart", "shared", "among data")), draw.choice((8, 4096))
-    ops = drawn_list(draw, records, transfer)
-    asked = [draw.random() < 0.3 for _ in ops] if draw.random() < 0.5 else [False] * len(ops)
-    rules = {"lone": draw.choice((1, 10)), "batch": 14, "fence": draw.choice((0, 3, 20)), "staging": 0x100000}
-    settings = Settings(greatest_batch=draw.randrange(2, 6), greatest_transfer=transfer, **rules)
-    given = b"".join(op.bytes(fenced) for op, fenced in zip(ops, asked))
-    split = [model.pieces_of(op, transfer) for op in ops]
-    pieces = [piece for part in split for piece in part]
-    barriers = [fenced and place == 0 for part, fenced in zip(split, asked) for place in range(len(part))]
+    settings, given, pieces, barriers = drawn_list(draw, records, transfer)
     memory = bytearray(draw.randrange(256) for _ in range(MEMORY))
     for piece in pieces:
         memory[piece.record_at : piece.record_at + 32] = bytes(32)

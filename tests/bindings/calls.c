@@ -1,5 +1,5 @@
 /* Rows worked by hand, of two moves: what each call answers, buffers that just hold or just do not, and that a refusal
- * changes nothing but itself. */
+ * changes nothing but itself; and which submissions wait for the pieces of a long move. */
 #include <inttypes.h>
 #include <stdio.h>
 #include <stdlib.h>
@@ -342,6 +342,28 @@ static void prices_go_by_size(void)
     expect(plan(&by_size, table, 3, sizeof staging) == DSA_OK && planned.cost == 8 && planned.pieces == 2);
 }
 
+/* A tracked move of 64 bytes with its record here, whose staging area is empty. */
+static uint32_t track_small_move(uint64_t *words, size_t len, uint64_t record_at, uint32_t *slot, uint64_t *waits)
+{
+    put_move(list, 0x20000, 0x21000 + 2 * record_at, record_at, 64);
+    return dsa_track_list(words, len, &settings, &settings.batch, 0, list, 64, 0x40000, 0, 0, slot, waits, &refusal);
+}
+
+/* A move of 8,192 bytes is two pieces, whose records are at 0x8000 and 0x8020: who has one of these waits for it. */
+static void pieces_are_tracked(void)
+{
+    enum { SLOTS = 4, SPANS = DSA_TRACKER_SPANS(2), WORDS = DSA_TRACKER_WORDS(SLOTS, SPANS, 1) };
+    uint64_t words[WORDS], waits = 0xee;
+    uint32_t slot = 0xee;
+    expect(dsa_track_begin(words, WORDS, SLOTS, SPANS, 1, 12, &refusal) == DSA_OK);
+    put_move(list, 0x1000, 0x3000, 0x8000, 8192);
+    expect(dsa_track_list(words, WORDS, &settings, &settings.batch, 0, list, 64, 0x10000, 160, 0, &slot, &waits,
+                          &refusal) == DSA_OK && slot == 0 && waits == 0);
+    expect(track_small_move(words, WORDS, 0x8020, &slot, &waits) == DSA_OK && slot == 1 && waits == 1);
+    expect(track_small_move(words, WORDS, 0x8040, &slot, &waits) == DSA_OK && slot == 2 && waits == 0);
+    expect(track_small_move(words, WORDS, 0x8000, &slot, &waits) == DSA_OK && slot == 3 && waits == 1);
+}
+
 /* As many moves as may be, apart from one another, in 64 batches of 1,024 that cost 14 each. */
 static void the_most_pieces_are_planned_checked_and_judged(void)
 {
@@ -378,6 +400,7 @@ int main(void)
     refusals_leave_the_outputs();
     settings_are_named();
     prices_go_by_size();
+    pieces_are_tracked();
     the_most_pieces_are_planned_checked_and_judged();
     return 0;
 }

@@ -16,7 +16,7 @@ use crate::finding::measure_conflicts;
 use crate::listing::measure_lists;
 use crate::operation::operation;
 use crate::tracking::measure_tracker;
-use crate::working::measure_image;
+use crate::working::measure_operation;
 use std::io;
 
 /// The pattern of a fill.
@@ -28,11 +28,11 @@ const ONES: u64 = 0x0101_0101_0101_0101;
 /// Measures the case of this name.
 fn measure(rt: &HostRuntime, name: &str) -> io::Result<()> {
     match name {
-        "move" => measure_image(rt, &operation(0x03, 0x7f_ffe0, 0)),
-        "overlap" => measure_image(rt, &operation(0x03, 0, 0x20)),
-        "fill" => measure_image(rt, &operation(0x04, PATTERN, 0)),
-        "compare" => measure_image(rt, &operation(0x05, 0, 0x7f_ffe0)),
-        "pattern" => measure_image(rt, &operation(0x06, 0, ONES)),
+        "move" => measure_operation(rt, &operation(0x03, 0x7f_ffe0, 0)),
+        "overlap" => measure_operation(rt, &operation(0x03, 0, 0x20)),
+        "fill" => measure_operation(rt, &operation(0x04, PATTERN, 0)),
+        "compare" => measure_operation(rt, &operation(0x05, 0, 0x7f_ffe0)),
+        "pattern" => measure_operation(rt, &operation(0x06, 0, ONES)),
         "conflicts" => measure_conflicts(rt),
         "list" => measure_lists(rt),
         "tracker" => measure_tracker(rt),

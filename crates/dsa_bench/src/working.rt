@@ -68,7 +68,7 @@ fn plain_time(rt: &HostRuntime) -> io::Result<Duration> {
 }
 
 /// Measures the operation, and prints what was measured.
-pub(crate) fn measure_image(rt: &HostRuntime, operation: &[u8; 64]) -> io::Result<()> {
+pub(crate) fn measure_operation(rt: &HostRuntime, operation: &[u8; 64]) -> io::Result<()> {
     let Some(in_image) = operation_time(rt, operation)? else {
         return Ok(());
     };

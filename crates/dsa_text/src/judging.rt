@@ -125,7 +125,8 @@ fn judged_json(
     cost: u64,
 ) -> Result<Answer, AllocError>
     requires { list.now.barriers.items ≡ [] }
-    ensures { IfOk result (AnswersJudged settings.now plan.now list.now.descriptors.items cost Json) }
+    ensures { IfOk result
+        (AnswersJudged settings.now plan.now list.now.descriptors.items cost Json) }
 {
     let least = least_cost(alloc, list, settings)?;
     answer_plan(
@@ -144,7 +145,8 @@ fn judged_waits(
     settings: &Settings,
     cost: u64,
 ) -> Result<Answer, AllocError>
-    ensures { IfOk result (AnswersJudged settings.now plan.now list.now.descriptors.items cost Waits) }
+    ensures { IfOk result
+        (AnswersJudged settings.now plan.now list.now.descriptors.items cost Waits) }
 {
     answer_plan(
         alloc,
@@ -164,7 +166,8 @@ fn judged_in_form(
     form: Form,
 ) -> Result<Answer, AllocError>
     requires { list.now.barriers.items ≡ [] }
-    ensures { IfOk result (AnswersJudged settings.now plan.now list.now.descriptors.items cost form) }
+    ensures { IfOk result
+        (AnswersJudged settings.now plan.now list.now.descriptors.items cost form) }
 {
     match form {
         Form::Words(detail) => judged_words(alloc, plan, list, settings, cost, detail),
@@ -184,7 +187,8 @@ fn answer_judged(
     form: Form,
 ) -> Result<Answer, AllocError>
     requires { list.now.barriers.items ≡ [] }
-    ensures { IfOk result (AnswersJudged settings.now plan.now list.now.descriptors.items cost form) }
+    ensures { IfOk result
+        (AnswersJudged settings.now plan.now list.now.descriptors.items cost form) }
 {
     let answer = judged_in_form(alloc, plan, list, settings, cost, form)?;
     Ok(answer.with_warnings(operation_notes(alloc, &list.descriptors, settings)?))

@@ -62,8 +62,8 @@ class Task:
     def __init__(self, kind, name, command, weight, waits=(), folder=ROOT):
         self.kind, self.name, self.command, self.weight = kind, name, command, weight
         self.waits, self.folder = [*waits], folder
-        # the work that waits for it, its own too
-        self.behind, self.jobs, self.can_wait = weight, 1, False
+        # the seconds of the longest way from it to the end, its own too
+        self.waiting, self.jobs, self.can_wait = weight, 1, False
         self.passed, self.failed, self.processor, self.clock, self.said = 0, 0, 0.0, 0.0, ""
         # of a task that tries all edits of a crate: what to note if none fails
         self.digest = None
@@ -78,7 +78,7 @@ class Task:
         start = time.monotonic()
         try:
             # Each task leads a process group, so that all it started can be ended.
-            how = {"cwd": self.folder, "stdin": subprocess.DEVNULL, "stderr": subprocess.STDOUT, "start_new_session": True}
+            how = {"cwd": self.folder, "stdin": subprocess.DEVNULL, "stderr": subprocess.STDOUT, "process_group": 0}
             with open(log, "w+", encoding="utf-8", errors="replace") as out:
                 child = subprocess.Popen(command, stdout=out, **how)
                 RUNNING.add(child.pid)
@@ -127,7 +127,7 @@ def add_up_what_waits(tasks):
     """Notes for each task how much work waits for it, on the longest way to the end."""
     for task in reversed(tasks):
         for below in task.waits:
-            below.behind = max(below.behind, below.weight + task.behind)
+            below.waiting = max(below.waiting, below.weight + task.waiting)
 
 
 def jobs_of(task, others, idle):
@@ -151,8 +151,8 @@ def start_ready(left, running, done, lanes, start):
         idle = lanes - len(running)
         if idle <= 0:
             break
-        most_behind = max(it.behind for it in [*left, *running.values()])
-        is_longest = task.behind >= NEAR_LONGEST * most_behind
+        most_waiting = max(it.waiting for it in [*left, *running.values()])
+        is_longest = task.waiting >= NEAR_LONGEST * most_waiting
         others = sum(it.kind in ("proofs", "edits") for it in ready[at + 1 :])
         task.jobs, task.can_wait = jobs_of(task, others, idle), not is_longest
         left.remove(task)
@@ -161,7 +161,7 @@ def start_ready(left, running, done, lanes, start):
 
 def seconds_of(tasks, lanes):
     """Returns about how long tasks take: as their longest way, or as all of them in these lanes."""
-    return max([0, *(it.behind for it in tasks)] + [sum(it.weight for it in tasks) / lanes])
+    return max([0, *(it.waiting for it in tasks)] + [sum(it.weight for it in tasks) / lanes])
 
 
 class Forecast:
@@ -182,7 +182,7 @@ class Forecast:
 def in_lanes(tasks, logs, lanes, note):
     """Runs the tasks, each when those that it waits for have passed, and notes each that passed."""
     add_up_what_waits(tasks)
-    left, running, done, printing = sorted(tasks, key=lambda it: -it.behind), {}, set(), threading.Lock()
+    left, running, done, printing = sorted(tasks, key=lambda it: -it.waiting), {}, set(), threading.Lock()
     forecast = Forecast(tasks, lanes)
     print(f"about {forecast.minutes(set())} minutes", flush=True)
 
@@ -315,7 +315,7 @@ def tasks_of(crates, given):
     proofs = proofs_of({name: crate for name, crate in crates.items() if name in proved})
     for name, task in proofs.items():
         if given.kept and crates[name].is_made():
-            task.weight = task.behind = 1
+            task.weight = task.waiting = 1
         elif given.kept and os.path.isdir(f"{crates[name].folder}/{toolchain.KEPT}"):
             task.weight *= OVER_KEPT
     if given.proofs:

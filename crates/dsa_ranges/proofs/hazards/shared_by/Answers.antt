@@ -1,5 +1,5 @@
-use Rattle.std.proofs.Common.{ℕ, ◌<◌, get_or, arith}
-use Rattle.dsa_descriptor.specs.Spans.{InSpan, span}
+use Rattle.std.proofs.Common.{arith}
+use Rattle.dsa_descriptor.specs.Spans.{span}
 use Rattle.dsa_ranges.proofs.SpanLists.{some_at, none_at}
 use Rattle.dsa_ranges.proofs.hazards.shared_by.Goals as goal
 

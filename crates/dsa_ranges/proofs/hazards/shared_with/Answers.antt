@@ -1,4 +1,4 @@
-use Rattle.std.proofs.Common.{ℕ, ◌<◌, get_or, below_more, arith}
+use Rattle.std.proofs.Common.{ℕ, get_or, below_more, arith}
 use Rattle.dsa_descriptor.specs.Spans.{InSpan, span}
 use Rattle.dsa_ranges.proofs.SpanLists.{some_at, none_at}
 use Rattle.dsa_ranges.proofs.hazards.shared_with.Goals as goal

@@ -1,6 +1,5 @@
 use Rattle.std.proofs.Common.{◌≡◌, ℕ, ◌≤◌, List, None, Ok, Err, Result, length, sym, ◌∙◌, subst, arith}
 use Rattle.std.specs.Prelude.{MatchResult, replicate}
-use Rattle.std.specs.Vec.{with_items}
 use Rattle.std.proofs.lemmas.List.{with_items_is}
 use Rattle.dsa_tracker.specs.declared.fault.WordsFault.{WordsFault}
 use Rattle.dsa_tracker.specs.declared.fault.WordsFault.TheVariants.{NotATracker}

@@ -141,7 +141,8 @@ fn lower_row(
     requires reached { (k : ℕ) → k < length costs.old → slice_index costs.old k ≤ unreached }
     ensures count { length costs.new ≡ length costs.old }
     ensures inside { (k : ℕ) → from ≤ k → k < to →
-        slice_index costs.new k ≡ min (slice_index costs.old k) (cost + slice_index sheet.now.table.now
+        slice_index costs.new k ≡ min (slice_index costs.old k)
+        (cost + slice_index sheet.now.table.now
         (k - start - 2) + sheet.now.fence * slice_index sheet.now.rows.now (at + (k - from))) }
     ensures outside { (k : ℕ) →
         (k < from) ⊎ (to ≤ k) → slice_index costs.new k ≡ slice_index costs.old k }

@@ -31,9 +31,11 @@ impl Model for Settings {
 
     ghost Value = { Limits };
 
-    ghost view = { λ s. limits s.greatest_batch s.greatest_transfer s.lone (kept_prices s.same s.table.items) s.fence s.staging };
+    ghost view = { λ s. limits s.greatest_batch s.greatest_transfer s.lone
+        (kept_prices s.same s.table.items) s.fence s.staging };
 
-    ghost invariant = { λ s. AreInLimits (limits s.greatest_batch s.greatest_transfer s.lone (kept_prices s.same s.table.items) s.fence s.staging) };
+    ghost invariant = { λ s. AreInLimits (limits s.greatest_batch s.greatest_transfer s.lone
+        (kept_prices s.same s.table.items) s.fence s.staging) };
 }
 
 /// A copy of the prices.

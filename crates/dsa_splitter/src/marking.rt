@@ -29,7 +29,8 @@ pub(crate) fn piece_barriers(
     list: &DescriptorList,
     settings: &Settings,
 ) -> Result<Vec<bool>, AllocError>
-    ensures barriers { IfOk result (λ found. found.items ≡ piece_barriers settings.now.greatest_transfer
+    ensures barriers { IfOk result (λ found. found.items ≡
+        piece_barriers settings.now.greatest_transfer
         (map fields list.now.descriptors.items) list.now.barriers.items) }
     ensures least { 8 ≤ settings.now.greatest_transfer }
 {

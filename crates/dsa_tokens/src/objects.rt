@@ -25,7 +25,8 @@ pub trait Fields<'t> {
         reader: &mut Reader<'t>,
         depth: usize,
     ) -> Result<(), Unread>
-        ensures { Answers (λ d _. (ms : Members) → hold self.old ms → hold self.new (put key.now d ms))
+        ensures { Answers (λ d _. (ms : Members) → hold self.old ms →
+            hold self.new (put key.now d ms))
             depth reader.old reader.new result };
 }
 

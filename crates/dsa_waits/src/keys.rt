@@ -136,7 +136,8 @@ fn have_same_words(all: &[[u8; 64]], first: usize, second: usize) -> bool
 
 /// Whether keys name two entries in the same words.
 pub(crate) fn are_alike(keyed: Keyed<'_>, course: &Course, first: usize, second: usize) -> bool
-    ensures { IsTrue result → key_at keyed.entry.all.now keyed.entry.submissions.now course.now first ≡
+    ensures { IsTrue result →
+        key_at keyed.entry.all.now keyed.entry.submissions.now course.now first ≡
         key_at keyed.entry.all.now keyed.entry.submissions.now course.now second }
 {
     let one = submission_at(keyed.submissions, entry_at(course, first).submission);

@@ -67,7 +67,7 @@ pub use picture::MOST_ENTRIES;
 pub use places::{BytesFault, DigitFault, bytes_of_input};
 pub use reading::{ReadFault, audit_read};
 pub use report::{Report, audit_recording};
-pub use report_json::{VERSION, entry_json, hazard_name};
+pub use report_json::{EntryObject, VERSION, entry_object, hazard_name, push_json};
 pub use showing::can_show;
 pub use staged::audit_staged;
 pub use stale::stale_lines;

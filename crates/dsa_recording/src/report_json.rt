@@ -12,7 +12,6 @@ use crate::written::Before;
 use dsa_audit::Unseen;
 use dsa_ranges::{Hazard, HazardKind};
 use serde::Serialize;
-use serde_json::{Value, json};
 use std::alloc::{AllocError, Global};
 
 /// The version of the program that writes reports, which is that of bindings/c/dsa_planner.h.
@@ -49,143 +48,253 @@ pub fn hazard_name(kind: HazardKind) -> &'static str {
     }
 }
 
+// The members of each object are in the order of the alphabet.
+
+/// The owner of an entry.
+#[derive(Drop, Serialize)]
+struct OwnerObject {
+    pasid: u32,
+    privileged: bool,
+}
+
+/// What was found, and why.
+#[derive(Drop, Serialize)]
+#[serde(untagged)]
+enum CauseObject {
+    /// A member is not looked at.
+    Unseen {
+        kind: &'static str,
+        operation: u64,
+        owner: OwnerObject,
+        submission_owner: OwnerObject,
+        why: &'static str,
+    },
+    /// A fence is missing.
+    Missing {
+        address: String,
+        bytes: u64,
+        earlier: u64,
+        hazard: &'static str,
+        kind: &'static str,
+        records: Vec<u64>,
+    },
+    /// It is about an earlier member.
+    Earlier {
+        earlier: u64,
+        kind: &'static str,
+    },
+    /// It is about a member that is waited for.
+    Awaited {
+        awaited: u64,
+        kind: &'static str,
+    },
+    /// It is about both.
+    EarlierAndAwaited {
+        awaited: u64,
+        earlier: u64,
+        kind: &'static str,
+    },
+    /// A fence is needless.
+    Needless {
+        kind: &'static str,
+        once_corrected: bool,
+    },
+    /// Two members share a record.
+    SharedRecord {
+        address: String,
+        earlier: u64,
+        kind: &'static str,
+    },
+    /// It is about the record at this address.
+    Record {
+        address: String,
+        kind: &'static str,
+    },
+    /// A batch has this size.
+    Size {
+        kind: &'static str,
+        size: u64,
+    },
+    /// There is no more to say.
+    Plain {
+        kind: &'static str,
+    },
+}
+
+/// An entry: its number, where its bytes begin, and what it does.
+#[derive(Drop, Serialize)]
+pub struct EntryObject {
+    entry: u64,
+    offset: u64,
+    operation: String,
+}
+
+/// A finding.
+#[derive(Drop, Serialize)]
+struct FindingObject {
+    entries: Vec<EntryObject>,
+    entry: u64,
+    key: String,
+    member: Option<u64>,
+    severity: &'static str,
+    submission: u64,
+    what: CauseObject,
+}
+
 /// The members in whose completion records the address of a conflict lies.
-fn records_json(alloc: Global, detail: &Detail, earlier: usize) -> Result<Value, AllocError> {
+fn records_of(alloc: Global, detail: &Detail, earlier: usize) -> Result<Vec<u64>, AllocError> {
     let mut members = Vec::new(alloc);
     if detail.records.earlier {
-        members.push(Value::from(earlier as u64))?;
+        members.push(earlier as u64)?;
     }
     if let (true, Place::Member(member)) = (detail.records.later, detail.place) {
-        members.push(Value::from(member as u64))?;
+        members.push(member as u64)?;
     }
-    Ok(Value::Array(members))
+    Ok(members)
 }
 
 /// Why a fence is missing.
-fn hazard_json(
+fn hazard_object(
     alloc: Global,
     detail: &Detail,
     earlier: usize,
     hazard: Hazard,
-) -> Result<Value, AllocError> {
-    let records = records_json(alloc, detail, earlier)?;
-    let (name, address) = (hazard_name(hazard.kind), hazard.address);
-    let address = format!(in alloc; "0x{address:x}")?;
-    let (earlier, bytes) = (earlier as u64, detail.overlap);
-    json!(in alloc; {
-        "kind": "missing",
-        "earlier": earlier,
-        "hazard": name,
-        "address": address,
-        "bytes": bytes,
-        "records": records
+) -> Result<CauseObject, AllocError> {
+    let records = records_of(alloc, detail, earlier)?;
+    let address = hazard.address;
+    Ok(CauseObject::Missing {
+        address: format!(in alloc; "0x{address:x}")?,
+        bytes: detail.overlap,
+        earlier: earlier as u64,
+        hazard: hazard_name(hazard.kind),
+        kind: "missing",
+        records,
     })
 }
 
-/// The object of an owner.
-fn owner_json(alloc: Global, owner: u32) -> Result<Value, AllocError> {
-    let (pasid, privileged) = (u64::from(owner % (1 << 20)), owner >> 31 == 1);
-    json!(in alloc; {"pasid": pasid, "privileged": privileged})
+/// An owner.
+fn owner_object(owner: u32) -> OwnerObject {
+    OwnerObject {
+        pasid: owner % (1 << 20),
+        privileged: owner >> 31 == 1,
+    }
 }
 
 /// Why a member is not looked at.
-fn unseen_json(alloc: Global, detail: &Detail, why: Unseen) -> Result<Value, AllocError> {
-    let (why, operation) = (unseen_name(why), u64::from(detail.code));
-    let owner = owner_json(alloc, detail.owner)?;
-    let head_owner = owner_json(alloc, detail.head_owner)?;
-    json!(in alloc; {
-        "kind": "unseen",
-        "why": why,
-        "operation": operation,
-        "owner": owner,
-        "submission_owner": head_owner
+fn unseen_object(detail: &Detail, why: Unseen) -> CauseObject {
+    CauseObject::Unseen {
+        kind: "unseen",
+        operation: u64::from(detail.code),
+        owner: owner_object(detail.owner),
+        submission_owner: owner_object(detail.head_owner),
+        why: unseen_name(why),
+    }
+}
+
+/// What is wrong with the record at this address.
+fn record_object(
+    alloc: Global,
+    record_at: u64,
+    kind: &'static str,
+) -> Result<CauseObject, AllocError> {
+    let address = format!(in alloc; "0x{record_at:x}")?;
+    Ok(CauseObject::Record { address, kind })
+}
+
+/// The record that two members share.
+fn shared_object(alloc: Global, record_at: u64, earlier: usize) -> Result<CauseObject, AllocError> {
+    Ok(CauseObject::SharedRecord {
+        address: format!(in alloc; "0x{record_at:x}")?,
+        earlier: earlier as u64,
+        kind: "shared record",
     })
 }
 
 /// What is wrong beside fences.
-fn flaw_json(alloc: Global, record_at: u64, flaw: Flaw) -> Result<Value, AllocError> {
-    let address = format!(in alloc; "0x{record_at:x}")?;
+fn flaw_object(alloc: Global, record_at: u64, flaw: Flaw) -> Result<CauseObject, AllocError> {
     match flaw {
-        Flaw::SharedRecord(earlier) => {
-            let earlier = earlier as u64;
-            json!(in alloc; {"kind": "shared record", "earlier": earlier, "address": address})
-        }
-        Flaw::OverwritesBatch => json!(in alloc; {"kind": "overwrites batch"}),
-        Flaw::DataOverRecord => {
-            json!(in alloc; {"kind": "data over record", "address": address})
-        }
-        Flaw::MisalignedRecord => {
-            json!(in alloc; {"kind": "misaligned record", "address": address})
-        }
-        Flaw::SmallBatch(size) => {
-            let size = size as u64;
-            json!(in alloc; {"kind": "small batch", "size": size})
-        }
-        Flaw::FenceWithoutEffect => json!(in alloc; {"kind": "fence without effect"}),
+        Flaw::SharedRecord(earlier) => shared_object(alloc, record_at, earlier),
+        Flaw::DataOverRecord => record_object(alloc, record_at, "data over record"),
+        Flaw::MisalignedRecord => record_object(alloc, record_at, "misaligned record"),
+        Flaw::OverwritesBatch => Ok(CauseObject::Plain {
+            kind: "overwrites batch",
+        }),
+        Flaw::SmallBatch(size) => Ok(CauseObject::Size {
+            kind: "small batch",
+            size: size as u64,
+        }),
+        Flaw::FenceWithoutEffect => Ok(CauseObject::Plain {
+            kind: "fence without effect",
+        }),
     }
 }
 
 /// What was found, and why; `complete`: no fence of its submission is missing.
-fn cause_json(alloc: Global, detail: &Detail, complete: bool) -> Result<Value, AllocError> {
+fn cause_object(alloc: Global, detail: &Detail, complete: bool) -> Result<CauseObject, AllocError> {
     match detail.cause {
-        Cause::NotSeen(why) => unseen_json(alloc, detail, why),
-        Cause::MissingFence(earlier, hazard) => hazard_json(alloc, detail, earlier, hazard),
-        Cause::GuardingFence(earlier) => {
-            let earlier = earlier as u64;
-            json!(in alloc; {"kind": "guarding", "earlier": earlier})
-        }
-        Cause::SignallingFence(awaited) => {
-            let awaited = awaited as u64;
-            json!(in alloc; {"kind": "signalling", "awaited": awaited})
-        }
-        Cause::GuardingAndSignallingFence(earlier, awaited) => {
-            let (earlier, awaited) = (earlier as u64, awaited as u64);
-            json!(in alloc; {
-                "kind": "guarding and signalling",
-                "earlier": earlier,
-                "awaited": awaited
-            })
-        }
-        Cause::NeedlessFence => {
-            let later = !complete;
-            json!(in alloc; {"kind": "needless", "once_corrected": later})
-        }
-        Cause::Repeated(earlier) => {
-            let earlier = earlier as u64;
-            json!(in alloc; {"kind": "repeated operation", "earlier": earlier})
-        }
-        Cause::Flawed(flaw) => flaw_json(alloc, detail.record_at, flaw),
+        Cause::NotSeen(why) => Ok(unseen_object(detail, why)),
+        Cause::MissingFence(earlier, hazard) => hazard_object(alloc, detail, earlier, hazard),
+        Cause::GuardingFence(earlier) => Ok(CauseObject::Earlier {
+            earlier: earlier as u64,
+            kind: "guarding",
+        }),
+        Cause::SignallingFence(awaited) => Ok(CauseObject::Awaited {
+            awaited: awaited as u64,
+            kind: "signalling",
+        }),
+        Cause::GuardingAndSignallingFence(earlier, awaited) => Ok(CauseObject::EarlierAndAwaited {
+            awaited: awaited as u64,
+            earlier: earlier as u64,
+            kind: "guarding and signalling",
+        }),
+        Cause::NeedlessFence => Ok(CauseObject::Needless {
+            kind: "needless",
+            once_corrected: !complete,
+        }),
+        Cause::Repeated(earlier) => Ok(CauseObject::Earlier {
+            earlier: earlier as u64,
+            kind: "repeated operation",
+        }),
+        Cause::Flawed(flaw) => flaw_object(alloc, detail.record_at, flaw),
     }
 }
 
-/// The object of an entry: its number, where its bytes begin, and what it does.
-pub fn entry_json(alloc: Global, number: usize, entry: &[u8; 64]) -> Result<Value, AllocError> {
-    let (operation, number) = (descriptor_text(alloc, entry)?, number as u64);
-    let offset = number.saturating_mul(64);
-    json!(in alloc; {"entry": number, "offset": offset, "operation": operation})
+/// The object of an entry of this number.
+pub fn entry_object(
+    alloc: Global,
+    number: usize,
+    entry: &[u8; 64],
+) -> Result<EntryObject, AllocError> {
+    let operation = descriptor_text(alloc, entry)?;
+    let number = number as u64;
+    Ok(EntryObject {
+        entry: number,
+        offset: number.saturating_mul(64),
+        operation,
+    })
 }
 
 /// Adds the object of the entry of this number, if there is one in those from number `from` on.
 fn push_entry(
     alloc: Global,
-    entries: &mut Vec<Value>,
+    entries: &mut Vec<EntryObject>,
     from: usize,
     all: &[[u8; 64]],
     number: usize,
 ) -> Result<(), AllocError> {
     if let Some(entry) = all.get(number.saturating_sub(from)) {
-        entries.push(entry_json(alloc, number, entry)?)?;
+        entries.push(entry_object(alloc, number, entry)?)?;
     }
     Ok(())
 }
 
-/// The array of the entries that a finding is of: its own, and those of the members that it names.
-fn entries_json(
+/// The entries that a finding is of: its own, and those of the members that it names.
+fn entries_of(
     alloc: Global,
     from: usize,
     all: &[[u8; 64]],
     detail: &Detail,
-) -> Result<Value, AllocError> {
+) -> Result<Vec<EntryObject>, AllocError> {
     let mut entries = Vec::new(alloc);
     push_entry(alloc, &mut entries, from, all, detail.entry)?;
     for member in named_by(detail.cause).as_slice() {
@@ -194,39 +303,54 @@ fn entries_json(
             push_entry(alloc, &mut entries, from, all, number)?;
         }
     }
-    Ok(Value::Array(entries))
+    Ok(entries)
 }
 
-/// The object of a finding of a part, which has these entries.
-pub(crate) fn finding_json(
+/// The number of the member that a finding is of, if it is of one of a batch.
+fn member_of(detail: &Detail) -> Option<u64> {
+    match (detail.place, detail.is_batch) {
+        (Place::Member(member), true) => Some(member as u64),
+        (Place::Member(_), false) | (Place::Head, true | false) => None,
+    }
+}
+
+/// Writes a value as JSON.
+pub fn push_json<T: Serialize>(
     alloc: Global,
+    line: &mut String,
+    value: &T,
+) -> Result<(), AllocError> {
+    match serde_json::to_string(alloc, value) {
+        Ok(text) => line.push_str(&text),
+        // the types that are written have no other fault
+        Err(_) => Err(AllocError),
+    }
+}
+
+/// Writes the object of a finding of a part, which has these entries.
+pub(crate) fn push_finding(
+    alloc: Global,
+    line: &mut String,
     before: Before,
     all: &[[u8; 64]],
     detail: &Detail,
     complete: bool,
     options: AuditOptions<'_>,
-) -> Result<Value, AllocError> {
+) -> Result<(), AllocError> {
     let shown = before.shown(detail);
-    let (entry, submission) = (shown.entry as u64, shown.submission as u64);
-    let member = match (detail.place, detail.is_batch) {
-        (Place::Member(member), true) => Value::from(member as u64),
-        (Place::Member(_), false) | (Place::Head, true | false) => Value::Null,
-    };
+    let entries = entries_of(alloc, before.entries, all, &shown)?;
+    let key = key_text(alloc, all, detail)?;
     let severity = severity_name(severity_in(alloc, options, all, detail)?);
-    let (key, entries) = (
-        key_text(alloc, all, detail)?,
-        entries_json(alloc, before.entries, all, &shown)?,
-    );
-    let what = cause_json(alloc, detail, complete)?;
-    json!(in alloc; {
-        "entry": entry,
-        "submission": submission,
-        "member": member,
-        "severity": severity,
-        "what": what,
-        "entries": entries,
-        "key": key
-    })
+    let finding = FindingObject {
+        entries,
+        entry: shown.entry as u64,
+        key,
+        member: member_of(detail),
+        severity,
+        submission: shown.submission as u64,
+        what: cause_object(alloc, detail, complete)?,
+    };
+    push_json(alloc, line, &finding)
 }
 
 /// The program that wrote a report.
@@ -250,11 +374,7 @@ fn push_member<T: Serialize>(
     value: &T,
 ) -> Result<(), AllocError> {
     line.push_str(name)?;
-    match serde_json::to_string(alloc, value) {
-        Ok(text) => line.push_str(&text),
-        // the types that are written have no other fault
-        Err(_) => Err(AllocError),
-    }
+    push_json(alloc, line, value)
 }
 
 /// The report as one line of JSON, of these findings.

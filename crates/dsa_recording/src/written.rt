@@ -11,7 +11,7 @@ use crate::detail::{Cause, Detail, detail_of};
 use crate::freed::freed_text;
 use crate::keys::key_text;
 use crate::report::Report;
-use crate::report_json::{finding_json, report_json};
+use crate::report_json::{push_finding, report_json};
 use crate::sums::Sums;
 use crate::totals::{flaws_text, nothing_text, totals_text};
 use crate::words::{Severity, finding_text};
@@ -141,11 +141,19 @@ impl Written {
         complete: bool,
         options: AuditOptions<'_>,
     ) -> Result<(), AllocError> {
-        let value = finding_json(alloc, self.before, all, detail, complete, options)?;
         if !self.text.is_empty() {
             self.text.push_str(",")?;
         }
-        self.text.push_str(&value.to_string(alloc)?)
+        let before = self.before;
+        push_finding(
+            alloc,
+            &mut self.text,
+            before,
+            all,
+            detail,
+            complete,
+            options,
+        )
     }
 
     /// Adds the key of a finding that is an error, if it is not there.

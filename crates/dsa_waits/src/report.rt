@@ -5,67 +5,89 @@ use crate::fitting::Found;
 use crate::keys::{Keyed, Shown, shown_waits};
 use crate::words::{severity_of, some_known};
 use dsa_audit::hazard_between;
-use dsa_recording::{entry_json, hazard_name, overlap};
-use serde_json::{Value, json};
+use dsa_recording::{EntryObject, entry_object, hazard_name, overlap, push_json};
+use serde::Serialize;
 use std::alloc::{AllocError, Global};
 use std::collections::BTreeSet;
 
 /// An entry that waits, or is waited for: its number, its submission, and which member of that it is, if it is one.
-fn place_json(alloc: Global, course: &Course, entry: usize) -> Result<Value, AllocError> {
+#[derive(Drop, Serialize)]
+struct PlaceObject {
+    entry: u64,
+    member: Option<u64>,
+    submission: u64,
+}
+
+/// A missing wait: both entries, where they conflict and how, and whether it is accepted.
+#[derive(Drop, Serialize)]
+struct WaitObject<'a> {
+    address: String,
+    bytes: u64,
+    earlier: PlaceObject,
+    entries: Vec<EntryObject>,
+    hazard: &'static str,
+    key: &'a str,
+    later: PlaceObject,
+    severity: &'static str,
+}
+
+/// The place of an entry.
+fn place_of(course: &Course, entry: usize) -> PlaceObject {
     let submission = entry_at(course, entry).submission;
     let first = made_at(&course.made, submission).first;
     let member = match entry.checked_sub(first) {
-        Some(0) | None => Value::Null,
-        Some(after) => Value::from((after - 1) as u64),
+        Some(0) | None => None,
+        Some(after) => Some((after - 1) as u64),
     };
-    let (entry, submission) = (entry as u64, submission as u64);
-    json!(in alloc; {"entry": entry, "member": member, "submission": submission})
+    PlaceObject {
+        entry: entry as u64,
+        member,
+        submission: submission as u64,
+    }
 }
 
-/// The objects of both entries: their numbers, and what they do.
-fn entries_json(
+/// Both entries: their numbers, and what they do.
+fn entries_of(
     alloc: Global,
     all: &[[u8; 64]],
     earlier: usize,
     later: usize,
-) -> Result<Value, AllocError> {
+) -> Result<Vec<EntryObject>, AllocError> {
     let mut entries = Vec::with_capacity(alloc, 2)?;
     for number in [later, earlier] {
         if let Some(entry) = all.get(number) {
-            entries.push(entry_json(alloc, number, entry)?)?;
+            entries.push(entry_object(alloc, number, entry)?)?;
         }
     }
-    Ok(Value::Array(entries))
+    Ok(entries)
 }
 
-/// The object of a missing wait: both entries, where they conflict and how, and whether it is accepted.
-fn wait_json(keyed: Keyed<'_>, course: &Course, wait: &Shown) -> Result<Value, AllocError> {
+/// Writes the object of a missing wait.
+fn push_wait(
+    keyed: Keyed<'_>,
+    line: &mut String,
+    course: &Course,
+    wait: &Shown,
+) -> Result<(), AllocError> {
     let (alloc, earlier, later) = (keyed.alloc, wait.earlier, wait.later);
     if earlier >= later || later >= course.members.len() {
-        return Ok(Value::Null);
+        return line.push_str("null");
     }
     let Some(hazard) = hazard_between(&course.members, earlier, later) else {
-        return Ok(Value::Null);
+        return line.push_str("null");
     };
-    let bytes = overlap(hazard, &course.members[earlier], &course.members[later]);
-    let (name, address) = (hazard_name(hazard.kind), hazard.address);
-    let address = format!(in alloc; "0x{address:x}")?;
-    let entries = entries_json(alloc, keyed.all, earlier, later)?;
-    let (first, second) = (
-        place_json(alloc, course, earlier)?,
-        place_json(alloc, course, later)?,
-    );
-    let (key, severity) = (wait.key.as_str(), severity_of(wait.is_accepted));
-    json!(in alloc; {
-        "address": address,
-        "bytes": bytes,
-        "earlier": first,
-        "entries": entries,
-        "hazard": name,
-        "key": key,
-        "later": second,
-        "severity": severity
-    })
+    let address = hazard.address;
+    let object = WaitObject {
+        address: format!(in alloc; "0x{address:x}")?,
+        bytes: overlap(hazard, &course.members[earlier], &course.members[later]),
+        earlier: place_of(course, earlier),
+        entries: entries_of(alloc, keyed.all, earlier, later)?,
+        hazard: hazard_name(hazard.kind),
+        key: wait.key.as_str(),
+        later: place_of(course, later),
+        severity: severity_of(wait.is_accepted),
+    };
+    push_json(alloc, line, &object)
 }
 
 /// All missing waits that are shown, as JSON: the object of each, and whether the events say when the program looked at
@@ -77,8 +99,7 @@ pub(crate) fn waits_json(keyed: Keyed<'_>, found: &Found) -> Result<String, Allo
         if !objects.is_empty() {
             objects.push_str(",")?;
         }
-        let value = wait_json(keyed, &found.course, wait)?;
-        objects.push_str(&value.to_string(alloc)?)?;
+        push_wait(keyed, &mut objects, &found.course, wait)?;
     }
     format!(in alloc; "{{\"looks\":{looks},\"missing\":[{objects}]}}")
 }

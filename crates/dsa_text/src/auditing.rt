@@ -143,66 +143,86 @@ fn events<'a>(alloc: Global) -> Result<Arg<'a>, AllocError> {
 
 /// The options of the prices.
 fn price_options<'a>(alloc: Global) -> Result<Vec<Arg<'a>>, AllocError> {
-    let batches = batches(alloc)?;
-    Ok(vec![in alloc;
-        value(
-            alloc,
-            "greatest-batch",
-            "32",
-            "most members of a batch that has a price, 2 to 1024"
-        ),
-        value(alloc, "lone", "10", "price of a lone descriptor"),
-        value(alloc, "batch", "14", "price of a batch"),
-        batches,
-        value(alloc, "fence", "3", "price of a fence in a batch"),
-    ]?)
+    let mut options = Vec::new(alloc);
+    options.push(value(
+        alloc,
+        "greatest-batch",
+        "32",
+        "most members of a batch that has a price, 2 to 1024",
+    ))?;
+    options.push(value(alloc, "lone", "10", "price of a lone descriptor"))?;
+    options.push(value(alloc, "batch", "14", "price of a batch"))?;
+    options.push(batches(alloc)?)?;
+    options.push(value(alloc, "fence", "3", "price of a fence in a batch"))?;
+    Ok(options)
 }
 
-/// The command `audit`.
-pub(crate) fn audit_command<'a>(alloc: Global) -> Result<Command<'a>, AllocError> {
-    let json = flag(alloc, "json", "write the report as JSON");
-    let svg = flag(alloc, "svg", "draw the submissions and their fences").conflicts_with("json")?;
-    let list = flag(alloc, "list", "write the operations as a list to plan")
-        .conflicts_with("json")?
-        .conflicts_with("svg")?
-        .conflicts_with("deny")?;
-    let all = flag(
+/// The flags of how a report is written.
+fn format_flags<'a>(alloc: Global) -> Result<Vec<Arg<'a>>, AllocError> {
+    let mut options = Vec::new(alloc);
+    options.push(flag(alloc, "json", "write the report as JSON"))?;
+    let svg = flag(alloc, "svg", "draw the submissions and their fences");
+    options.push(svg.conflicts_with("json")?)?;
+    let list = flag(alloc, "list", "write the operations as a list to plan");
+    options.push(
+        list.conflicts_with("json")?
+            .conflicts_with("svg")?
+            .conflicts_with("deny")?,
+    )?;
+    options.push(flag(
         alloc,
         "all",
         "write each finding, not the first of each kind",
-    );
+    ))?;
+    Ok(options)
+}
+
+/// The options of what counts as an error.
+fn error_options<'a>(alloc: Global) -> Result<Vec<Arg<'a>>, AllocError> {
+    let mut options = Vec::new(alloc);
+    options.push(deny(alloc))?;
+    options.push(accept(alloc))?;
     let write = flag(
         alloc,
         "write-accept",
         "write the kinds of the errors, for --accept",
-    )
-    .conflicts_with("json")?
-    .conflicts_with("svg")?
-    .conflicts_with("list")?;
-    let resident = flag(
+    );
+    options.push(
+        write
+            .conflicts_with("json")?
+            .conflicts_with("svg")?
+            .conflicts_with("list")?,
+    )?;
+    Ok(options)
+}
+
+/// The options of what is known beside the recording.
+fn knowledge_options<'a>(alloc: Global) -> Result<Vec<Arg<'a>>, AllocError> {
+    let mut options = Vec::new(alloc);
+    options.push(awaited(alloc))?;
+    options.push(flag(
         alloc,
         "resident",
         "all memory is resident: no member page-faults",
-    );
-    let options = vec![in alloc;
-        files(alloc),
-        json,
-        svg,
-        list,
-        all,
-        deny(alloc),
-        accept(alloc),
-        write,
-        awaited(alloc),
-        resident,
-        staging(alloc),
-        events(alloc)?,
-    ]?;
+    ))?;
+    options.push(staging(alloc))?;
+    options.push(events(alloc)?)?;
+    Ok(options)
+}
+
+/// The command `audit`.
+pub(crate) fn audit_command<'a>(alloc: Global) -> Result<Command<'a>, AllocError> {
+    let format = format_flags(alloc)?;
+    let errors = error_options(alloc)?;
+    let knowledge = knowledge_options(alloc)?;
     let prices = price_options(alloc)?;
     Command::new(alloc, "audit")
         .about("Reads a recording of what was submitted, and reports missing and needless fences")
         .after_help(RECORDINGS)
-        .args(options)?
+        .arg(files(alloc))?
+        .args(format)?
+        .args(errors)?
+        .args(knowledge)?
         .args(prices)
 }
 

@@ -1,5 +1,5 @@
 """Texts that take as much memory as a job of their length may, with the most that each may take, in bytes for each byte
-of text, and the number of its refusal. They are read under a limit of address space."""
+of text, and the number of its refusal. They are read under a limit of address space, as jobs and to be explained."""
 
 import resource
 import subprocess
@@ -40,10 +40,21 @@ def by_size(part):
     return filled(before, part, after)
 
 
+def falling():
+    """Names of which each is less than all before it."""
+    count = LENGTH // len('"00000000":0,') - 20
+    return '{"do":"plan","list":"",' + SETTINGS + "," + ",".join(f'"{count - k:08}":0' for k in range(count)) + "}"
+
+
 # name: the text, the most bytes for each of its bytes, the number of the refusal
 TEXTS = {
     "small objects": lambda: (filled("[", '{"":0}', "]"), 3, 81),
     "members of no job": lambda: (filled("{", '"member":0', "}"), 3, 82),
+    "other members of a job": lambda: (filled('{"do":"plan","list":"",' + SETTINGS + ",", '"member":0', "}"), 3, 81),
+    "names that fall": lambda: (falling(), 3, 81),
+    "a long name": lambda: ('{"do":"plan","list":"",' + SETTINGS + ',"' + "x" * (LENGTH - 200) + '":0}', 3, 81),
+    "settings of other names": lambda: (filled('{"do":"plan","list":"","settings":{', '"member":0', "}}"), 3, 81),
+    "bytes of other digits": lambda: ('{"do":"plan",' + SETTINGS + ',"list":"' + "x" * (LENGTH - 200) + '"}', 3, 84),
     "names again and again": lambda: (filled("{", '"do":"run"', "}"), 3, 81),
     "texts of other kinds": lambda: (filled("{", '"plan":"x","do":[]', "}"), 3, 82),
     "deep nesting": lambda: (filled("[", "[" * 120 + "]" * 120, "]"), 3, 81),
@@ -69,5 +80,16 @@ def limited(most):
 
 def answer(program, text, most):
     """The line that answers the text, with so many bytes of memory for each of its bytes."""
+    return told([program], text, most).stdout.decode()
+
+
+def reason(program, text):
+    """Why the text is not explained, with 4 bytes of memory for each of its bytes. One that begins with no brace is the
+    list of a job."""
+    job = text if text.startswith("{") else f'{{"do":"plan","list":{text}}}'
+    return told([program, "explain"], job, 4).stderr.decode()
+
+
+def told(command, text, most):
     limit = limited(ROOM + most * len(text))
-    return subprocess.run([program], input=text.encode(), capture_output=True, preexec_fn=limit).stdout.decode()
+    return subprocess.run(command, input=text.encode(), capture_output=True, preexec_fn=limit)

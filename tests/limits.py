@@ -9,7 +9,7 @@ import model
 from common import (
     digits, expect, expect_line, job, judge, move, named, object_of, plan, program, raw, run_test, settings,
 )
-from hostile_texts import TEXTS, answer
+from hostile_texts import TEXTS, answer, reason
 from model import FILL, Op
 
 MOST = 65_536
@@ -181,11 +181,15 @@ def cut():
 
 
 def hostile():
-    """Hostile texts are refused, and take no more memory than they may."""
+    """Hostile texts are refused, and take no more memory than they may: also by `explain`, which looks at a refused job
+    once more. It refuses any job to replay."""
     for name, made in TEXTS.items():
         text, most, number = made()
         line = answer(program("dsa"), text, most)
         expect(line.startswith(f"refused {number} "), f"{name}, with {most} bytes for each byte: {line!r}")
+        said = reason(program("dsa_text"), text)
+        why = 82 if '"do":"replay"' in text[:20] else number
+        expect(f" [{why} " in said[-60:], f"{name}, explained: {said[:200]!r} .. {said[-60:]!r}")
 
 
 def main(words):

@@ -10,7 +10,9 @@ from dataclasses import dataclass, field
 from glob import glob
 from itertools import count as numbers
 
-from common import ROOT, digits, expect, having, job, move, object_of, program, refuse_so, run_test, settings, side_by_side
+from common import (
+    ROOT, digits, expect, having, job, move, object_of, plan, program, refuse_so, run_test, settings, side_by_side,
+)
 
 ALL = 1 << 60
 REFUSED = {"dsa": ("refused 73 Memory\n", 1), "dsa_text": ("error: there was not enough memory [73 Memory]\n", 1)}
@@ -30,6 +32,15 @@ TEXTS = [
     ("store.txt", ("explain",), "store.explain"),
     ("store.txt", ("explain", "--svg"), "store.svg"),
     ("pages.job", ("explain",), "pages.explain"),
+]
+
+# what `explain` finds wrong with jobs: the text, and the end of what is said
+WRONG = [
+    ('{"do":"plan","list":1e999}', "line 1, column 26: the text is no JSON [80 Json]\n"),
+    (plan("", other=0), "a job to plan has no member `other` [81 Member]\n"),
+    (plan("", settings(other=0)), "`settings` has no member `other` [81 Member]\n"),
+    (plan("", settings(fence=2**32)), "`settings`: `fence` is no number from 0 to 1000000000 [83 Settings]\n"),
+    (plan("0"), "`list` is no hexadecimal text of even length [84 Hex]\n"),
 ]
 
 # a batch of two moves that conflict and of one whose operation is not looked at; the end of its report, and its status
@@ -175,6 +186,8 @@ def runs(of_jobs, of_texts):
     for words, said, status in AUDITS:
         # status 1 would say that a fence is missing; the program knows no command before it has read its arguments
         yield Run(f"dsa_text {' '.join(words)}", of_texts, RECORDING, said, words, NO_MEMORY, status)
+    for text, said in WRONG:
+        yield Run(f"dsa_text explain of {text}", of_texts, text.encode(), said, ("explain",), status=1)
     yield HaltedRun("run of many pieces", of_jobs, run_of_many(), "")
 
 

@@ -4,9 +4,10 @@ ghost use Rattle.std.specs.Prelude.{IfOk};
 ghost use Rattle.dsa_text.specs.Refusals.{IsRefusal};
 
 use crate::answer::Answer;
+use crate::members::{Members, SETTINGS_MEMBERS, Shape, job_members, settings_members};
 use crate::settings::{SETTINGS, limits_of, member_of};
+use crate::syntax::syntax_fault;
 use dsa_calls::PlanFault;
-use serde_json::Value;
 use std::alloc::{AllocError, Global};
 
 /// The members of the jobs that can be explained, by the name of the job.
@@ -19,85 +20,101 @@ const JOBS: [(&str, &[&str]); 3] = [
     ),
 ];
 
-/// The members of settings.
-const SETTINGS_MEMBERS: [&str; 7] = [
-    "version",
-    "greatest_batch",
-    "greatest_transfer",
-    "lone",
-    "batch",
-    "fence",
-    "staging",
-];
-
 /// The members that are bytes.
 const BYTES: [&str; 3] = ["list", "portal", "staging"];
 
 /// A better reason for a refusal than its cause; none if nothing was found, or that an allocation failed.
 type Found = Result<Option<String>, AllocError>;
 
+/// That an object has a member of no known name, which may be as long as the text.
+fn no_member(alloc: Global, whole: &str, name: &str) -> Result<String, AllocError> {
+    let mut words = format!(in alloc; "{whole} has no member `")?;
+    words.reserve(name.len().saturating_add(1))?;
+    words.push_str(name)?;
+    words.push_str("`")?;
+    Ok(words)
+}
+
 /// What is wrong with the names of an object's members.
-fn names_fault(alloc: Global, value: &Value, whole: &str, names: &[&str]) -> Found {
-    let Some(members) = value.as_object() else {
-        return Ok(Some(format!(in alloc; "{whole} is no object")?));
-    };
+fn names_fault(alloc: Global, members: &Members, whole: &str, names: &[&str]) -> Found {
     for name in names {
-        if value.get(*name).is_none() {
+        if members.get(name).is_none() {
             return Ok(Some(format!(in alloc; "{whole} lacks the member `{name}`")?));
         }
     }
-    for key in members.keys() {
-        let key = key.as_str();
-        if !names.contains(&key) {
-            return Ok(Some(format!(in alloc; "{whole} has no member `{key}`")?));
+    match members.least_beside(names) {
+        Some(name) => Ok(Some(no_member(alloc, whole, name)?)),
+        None => Ok(None),
+    }
+}
+
+/// The kind that a member of a job has to be of, if it is not.
+fn wrong_kind(name: &str, value: &Shape) -> Option<&'static str> {
+    match name {
+        "do" | "list" | "portal" | "staging" => {
+            (!matches!(value, Shape::Text(_))).then_some("text")
+        }
+        "plan" => (!matches!(value, Shape::Array)).then_some("an array of groups"),
+        "settings" | "certificate" => (!matches!(value, Shape::Object)).then_some("an object"),
+        _ => None,
+    }
+}
+
+/// Which of these members of a job is of another kind.
+fn kind_fault(alloc: Global, job: &Members, names: &[&str]) -> Found {
+    for name in names {
+        if let Some(kind) = job.get(name).and_then(|value| wrong_kind(name, value)) {
+            return Ok(Some(format!(in alloc; "`{name}` is not {kind}")?));
         }
     }
     Ok(None)
 }
 
-/// The kind that a member of a job has to be of, if it is not.
-fn wrong_kind(name: &str, value: &Value) -> Option<&'static str> {
-    match name {
-        "do" | "list" | "portal" | "staging" => (!value.is_string()).then_some("text"),
-        "plan" => (!value.is_array()).then_some("an array of groups"),
-        "settings" | "certificate" => (!value.is_object()).then_some("an object"),
-        _ => None,
+/// Which member of a job is missing, not named for it, or of another kind.
+fn own_fault(alloc: Global, job: &Members) -> Found {
+    let name = job.text("do").unwrap_or("");
+    for (known, names) in JOBS {
+        if known == name {
+            let whole = format!(in alloc; "a job to {name}")?;
+            return match names_fault(alloc, job, &whole, names)? {
+                Some(fault) => Ok(Some(fault)),
+                None => kind_fault(alloc, job, names),
+            };
+        }
+    }
+    Ok(None)
+}
+
+/// The same of the members of its settings.
+fn settings_fault(alloc: Global, text: &[u8], job: &Members) -> Found {
+    let whole = "`settings`";
+    match (job.get("settings"), settings_members(alloc, text)?) {
+        (Some(_), Some(settings)) => names_fault(alloc, &settings, whole, &SETTINGS_MEMBERS),
+        (Some(_), None) => Ok(Some(format!(in alloc; "{whole} is no object")?)),
+        (None, _) => Ok(None),
     }
 }
 
 /// Which member is missing, not named for the job, or of another kind.
-fn member_fault(alloc: Global, job: &Value) -> Found {
-    let name = job.get("do").and_then(Value::as_str).unwrap_or("");
-    for (known, names) in JOBS {
-        if known != name {
-            continue;
-        }
-        let whole = format!(in alloc; "a job to {name}")?;
-        if let Some(fault) = names_fault(alloc, job, &whole, names)? {
-            return Ok(Some(fault));
-        }
-        for member in names {
-            let Some(kind) = job.get(*member).and_then(|value| wrong_kind(member, value)) else {
-                continue;
-            };
-            return Ok(Some(format!(in alloc; "`{member}` is not {kind}")?));
-        }
-    }
-    match job.get("settings") {
-        Some(settings) => names_fault(alloc, settings, "`settings`", &SETTINGS_MEMBERS),
-        None => Ok(None),
+fn member_fault(alloc: Global, text: &[u8]) -> Found {
+    let Some(job) = job_members(alloc, text)? else {
+        return Ok(Some(String::from_str(alloc, "a job is an object")?));
+    };
+    match own_fault(alloc, &job)? {
+        Some(fault) => Ok(Some(fault)),
+        None => settings_fault(alloc, text, &job),
     }
 }
 
 /// Which setting is outside its limits.
-fn setting_fault(alloc: Global, job: &Value) -> Found {
-    let Some(settings) = job.get("settings") else {
+fn setting_fault(alloc: Global, text: &[u8]) -> Found {
+    let Some(settings) = settings_members(alloc, text)? else {
         return Ok(None);
     };
     for setting in SETTINGS {
         let member = member_of(setting);
-        if let Some(number) = settings.get(member).and_then(Value::as_u64) {
-            if !setting.allows(number) {
+        if let Some(Shape::Whole(number)) = settings.get(member) {
+            if !setting.allows(*number) {
                 let limits = limits_of(setting);
                 return Ok(Some(format!(in alloc; "`settings`: `{member}` is no {limits}")?));
             }
@@ -107,10 +124,13 @@ fn setting_fault(alloc: Global, job: &Value) -> Found {
 }
 
 /// Which member's bytes are no hexadecimal text.
-fn hex_fault(alloc: Global, job: &Value) -> Found {
+fn hex_fault(alloc: Global, text: &[u8]) -> Found {
+    let Some(job) = job_members(alloc, text)? else {
+        return Ok(None);
+    };
     for member in BYTES {
-        if let Some(text) = job.get(member).and_then(Value::as_str) {
-            match hex::decode(alloc, text.as_bytes()) {
+        if let Some(digits) = job.text(member) {
+            match hex::decode(alloc, digits.as_bytes()) {
                 Ok(_) => {}
                 Err(hex::FromHexError::OutOfMemory) => return Err(AllocError),
                 Err(_) => {
@@ -124,15 +144,25 @@ fn hex_fault(alloc: Global, job: &Value) -> Found {
     Ok(None)
 }
 
-/// What is wrong with the value of a job.
-fn value_fault(alloc: Global, job: &Value, fault: PlanFault) -> Found {
-    if !job.is_object() {
-        return Ok(Some(String::from_str(alloc, "a job is an object")?));
+/// Where the text is no JSON.
+fn json_fault(alloc: Global, text: &[u8]) -> Found {
+    let Some(fault) = syntax_fault(alloc, text)? else {
+        return Ok(None);
+    };
+    let (line, column) = (fault.line, fault.column);
+    if fault.is_cut {
+        return Ok(Some(format!(in alloc; "line {line}: the text ends before its JSON does")?));
     }
+    Ok(Some(format!(in alloc; "line {line}, column {column}: the text is no JSON")?))
+}
+
+/// What is wrong with a text that spells no job.
+fn text_fault(alloc: Global, text: &[u8], fault: PlanFault) -> Found {
     match fault {
-        PlanFault::Member => member_fault(alloc, job),
-        PlanFault::Settings => setting_fault(alloc, job),
-        PlanFault::Hex => hex_fault(alloc, job),
+        PlanFault::Json => json_fault(alloc, text),
+        PlanFault::Member => member_fault(alloc, text),
+        PlanFault::Settings => setting_fault(alloc, text),
+        PlanFault::Hex => hex_fault(alloc, text),
         PlanFault::List(_)
         | PlanFault::Split(_)
         | PlanFault::Emission(_)
@@ -145,26 +175,9 @@ fn value_fault(alloc: Global, job: &Value, fault: PlanFault) -> Found {
         | PlanFault::OverTransfer(_)
         | PlanFault::Shape
         | PlanFault::Memory
-        | PlanFault::Json
         | PlanFault::Do
         | PlanFault::Engines
         | PlanFault::JobTooLong => Ok(None),
-    }
-}
-
-/// What is wrong with a text that spells no job.
-fn text_fault(alloc: Global, text: &[u8], fault: PlanFault) -> Found {
-    match Value::from_slice(alloc, text) {
-        Ok(job) => value_fault(alloc, &job, fault),
-        Err(error) if error.is_memory() => Err(AllocError),
-        Err(error) if error.is_eof() => {
-            let line = error.line();
-            Ok(Some(format!(in alloc; "line {line}: the text ends before its JSON does")?))
-        }
-        Err(error) => {
-            let (line, column) = (error.line(), error.column());
-            Ok(Some(format!(in alloc; "line {line}, column {column}: the text is no JSON")?))
-        }
     }
 }
 

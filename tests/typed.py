@@ -210,6 +210,25 @@ def stopped_at_barriers(text, folder):
         ran = subprocess.run(command, input=checked, capture_output=True, text=True)
         got = (ran.returncode, ran.stdout, re.sub("warning: piece .*\n", "", ran.stderr))
         expect(got == (0, left, said), f"resume of a check, statuses {statuses}: wanted {left!r}, {said!r}, got {got}")
+    # a failed move over a part of its own source, and over all of it, which changes nothing
+    for source, said in ((0x1030, "warning: piece 0 has failed, and may have overwritten a part of what it reads: "
+                                  "restore that before it is done again\n"), (0x1000, ""), (0x1040, "")):
+        line = f"move {source:#x} -> 0x1000, 64 bytes, record 0x8000\n"
+        Path(folder, "some").write_bytes(b"\x03".ljust(32, b"\0"))
+        command = [text, "resume", "--records", f"{folder}/some"]
+        ran = subprocess.run(command, input=line, capture_output=True, text=True)
+        got = (ran.returncode, ran.stdout, ran.stderr)
+        expect(got == (0, line, said), f"resume of a move over its source: wanted {line!r}, {said!r}, got {got}")
+    # a fence that was planned as a barrier
+    Path(folder, "some").write_bytes(b"\x02".ljust(32, b"\0") + b"\x03".ljust(32, b"\0") + bytes(32))
+    fenced = checked.replace("barrier\n", "fence ")
+    passed = "note: line 3, operation 2: this fence is passed over; --keep-fences makes it a barrier\n"
+    kept = out(1, "piece", 0, "is a check with another result than expected")
+    for more, left, said in (([], row[1] + row[2], passed), (["--keep-fences"], row[1], kept)):
+        command = [text, "resume", *more, "--records", f"{folder}/some"]
+        ran = subprocess.run(command, input=fenced, capture_output=True, text=True)
+        got = (ran.returncode, ran.stdout, re.sub("warning: piece .*\n", "", ran.stderr))
+        expect(got == (0, left, said), f"resume {more} of a fence: wanted {left!r}, {said!r}, got {got}")
 
 
 def sharing(text, folder):

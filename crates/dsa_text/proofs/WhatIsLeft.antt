@@ -1,5 +1,5 @@
 -- The answer of `resume`, from its parts.
-use Rattle.std.proofs.Common.{◌≡◌, ◌⊎◌, inl, inr, ℕ, Bool, false, List, map, Result, Ok, Err, IfOk, sym, ap, ◌∙◌}
+use Rattle.std.proofs.Common.{◌≡◌, ◌⊎◌, inl, inr, ℕ, Bool, List, map, Result, Ok, Err, IfOk, sym, ap, ◌∙◌}
 use Rattle.std.specs.Prelude.{Some, string_bytes}
 use Rattle.dsa_descriptor.specs.declared.descriptor.Descriptor.{Descriptor}
 use Rattle.dsa_descriptor.specs.Descriptors.{fields}
@@ -19,9 +19,9 @@ if_ok_more P Q (Ok a) more holds = more a holds
 if_ok_more P Q (Err e) more holds = tt
 
 -- the list of a text
-pub listed : (text : List ℕ) (ds : List Descriptor) (barriers : List Bool) → IsListing (lines_of text) (list_spelling (map fields ds)) → HaveOneOwner (map fields ds)
-    → barriers ≡ barriers_of false (lines_of text) → IsListedText text ds barriers
-listed text ds barriers listing owner are = record {
+pub listed : (text : List ℕ) (keep : Bool) (ds : List Descriptor) (barriers : List Bool) → IsListing (lines_of text) (list_spelling (map fields ds)) → HaveOneOwner (map fields ds)
+    → barriers ≡ barriers_of keep (lines_of text) → IsListedText text keep ds barriers
+listed text keep ds barriers listing owner are = record {
   spelled = listing.spelled ∙ ap Some (spelled_list (lines_of text) (map fields listing.operations) ds listing.spelled (sym listing.bytes_are));
   one_owner = owner;
   barriers_are = are;

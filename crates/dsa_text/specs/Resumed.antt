@@ -1,5 +1,5 @@
 -- What `resume` answers (this project's choice).
-use Rattle.std.specs.Prelude.{◌≡◌, ◌⊎◌, ◌++◌, ℕ, Bool, false, List, Some, codes, decimal, map, string_bytes, Ok, Err}
+use Rattle.std.specs.Prelude.{◌≡◌, ◌⊎◌, ◌++◌, ℕ, Bool, List, Some, codes, decimal, map, string_bytes, Ok, Err}
 use Rattle.dsa_descriptor.specs.declared.descriptor.Descriptor.{Descriptor}
 use Rattle.dsa_descriptor.specs.Descriptors.{fields}
 use Rattle.dsa_descriptor.specs.Lists.{HaveOneOwner}
@@ -40,20 +40,20 @@ pub record IsRestText (rest : Remainder) (a : Answer) : Type 0 where
   pub status : a.status ≡ 0
   pub lines : string_bytes a.text ≡ marked_text (map fields rest.pieces) rest.barriers
 
--- the text spells these operations, of one owner; a line `barrier` is a barrier, and the fences of a plan are none
-pub record IsListedText (text : List ℕ) (ds : List Descriptor) (barriers : List Bool) : Type 0 where
+-- the text spells these operations, of one owner; a line `barrier` is a barrier, and so is the fence of a line if fences are kept
+pub record IsListedText (text : List ℕ) (keep_fences : Bool) (ds : List Descriptor) (barriers : List Bool) : Type 0 where
   pub spelled : all_fields (lines_of text) ≡ Some (map fields ds)
   pub one_owner : HaveOneOwner (map fields ds)
-  pub barriers_are : barriers ≡ barriers_of false (lines_of text)
+  pub barriers_are : barriers ≡ barriers_of keep_fences (lines_of text)
 
 -- The answer to a text, to records and to what is given up: the refusal of a text that spells no list, or of its list or
 -- what is said of it; or the text of what is left.
-pub data ResumesText (text : List ℕ) (s : Limits) (records given_up : List ℕ) (order : LeftOrder) (a : Answer) : Type 0 where
+pub data ResumesText (text : List ℕ) (keep_fences : Bool) (s : Limits) (records given_up : List ℕ) (order : LeftOrder) (a : Answer) : Type 0 where
   is_no_list : (fault : TextFault) → Assembles {X = List ℕ} (λ bytes. bytes) (lines_of text) (Err fault) → RefusesText fault a
-      → ResumesText text s records given_up order a
-  is_refused : (ds : List Descriptor) (barriers : List Bool) (fault : ResumeFault) → IsListedText text ds barriers
+      → ResumesText text keep_fences s records given_up order a
+  is_refused : (ds : List Descriptor) (barriers : List Bool) (fault : ResumeFault) → IsListedText text keep_fences ds barriers
       → (fault ≡ Plan Memory) ⊎ ResumesOperations s (map fields ds) barriers records given_up order (Err fault)
-      → IsResumeRefusal fault a → ResumesText text s records given_up order a
-  has_left : (ds : List Descriptor) (barriers : List Bool) (rest : Remainder) → IsListedText text ds barriers
+      → IsResumeRefusal fault a → ResumesText text keep_fences s records given_up order a
+  has_left : (ds : List Descriptor) (barriers : List Bool) (rest : Remainder) → IsListedText text keep_fences ds barriers
       → ResumesOperations s (map fields ds) barriers records given_up order (Ok rest)
-      → IsRestText rest a → ResumesText text s records given_up order a
+      → IsRestText rest a → ResumesText text keep_fences s records given_up order a

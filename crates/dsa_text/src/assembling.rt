@@ -30,7 +30,7 @@ fn assemble_list(alloc: Global, text: &[u8], keep_fences: bool) -> Result<Answer
 }
 
 /// A line for each fence of a text that its list does not have.
-fn passed_over(
+pub(crate) fn passed_over(
     alloc: Global,
     text: &[u8],
     keep_fences: bool,

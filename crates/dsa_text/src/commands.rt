@@ -98,7 +98,7 @@ pub(crate) fn batches<'a>(alloc: Global) -> Result<Arg<'a>, AllocError> {
 }
 
 /// The flag that keeps fences of lines as barriers.
-fn keep_fences<'a>(alloc: Global) -> Arg<'a> {
+pub(crate) fn keep_fences<'a>(alloc: Global) -> Arg<'a> {
     flag(
         alloc,
         "keep-fences",

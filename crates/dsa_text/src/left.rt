@@ -4,8 +4,8 @@ use crate::kept::joined;
 use crate::origins::count_of;
 use crate::overwritten::overwritten_notes;
 use crate::rows::warnings_of;
-use dsa_calls::{PlanFault, plan_operations};
-use dsa_descriptor::{Descriptor, DescriptorList};
+use dsa_calls::{PlanFault, Planned, plan_operations};
+use dsa_descriptor::{Descriptor, DescriptorList, Op};
 use dsa_lines::{TextFault, parse_list};
 use dsa_plan::Settings;
 use dsa_settings::cuts_of;
@@ -73,20 +73,67 @@ fn piece_total(operations: &[Descriptor], settings: &Settings) -> usize {
     total
 }
 
-/// The warning about records that submitting the groups of the list's plan in turn does not leave.
-fn early_note(
+/// Whether a piece is a move that overwrites a part of what it reads with other bytes.
+fn overwrites_its_source(piece: &Descriptor) -> bool {
+    match piece.op {
+        Op::Move { src, dst } => src != dst && src.abs_diff(dst) < u64::from(piece.size),
+        Op::Fill { .. }
+        | Op::Compare { .. }
+        | Op::ComparePattern { .. }
+        | Op::ApplyDelta { .. }
+        | Op::Dualcast { .. } => false,
+    }
+}
+
+/// The warning about the first piece that has failed and may have overwritten what it reads.
+fn source_note(
+    alloc: Global,
+    pieces: &[Descriptor],
+    completions: &[[u8; 32]],
+) -> Result<Option<String>, AllocError> {
+    for (number, (piece, completion)) in pieces.iter().zip(completions).enumerate() {
+        if completion[0] > 2 && overwrites_its_source(piece) {
+            let mut text = format!(in alloc; "warning: piece {number} has failed, ")?;
+            text.push_str("and may have overwritten a part of what it reads: ")?;
+            text.push_str("restore that before it is done again\n")?;
+            return Ok(Some(text));
+        }
+    }
+    Ok(None)
+}
+
+/// The warnings about these records of a planned list.
+fn planned_notes(
+    alloc: Global,
+    planned: &Planned,
+    records: &[u8],
+) -> Result<Option<String>, AllocError> {
+    let (completions, _) = records.as_chunks::<32>();
+    let source = source_note(alloc, &planned.pieces, completions)?;
+    joined(source, early_note(alloc, planned, completions)?)
+}
+
+/// The warnings about these records of a list, if it can be planned.
+fn records_notes(
     alloc: Global,
     operations: &DescriptorList,
     settings: &Settings,
     records: &[u8],
 ) -> Result<Option<String>, AllocError> {
-    let planned = match plan_operations(alloc, operations, settings) {
-        Ok(planned) => planned,
-        Err(fault) if fault == PlanFault::Memory => return Err(AllocError),
-        Err(_) => return Ok(None),
-    };
+    match plan_operations(alloc, operations, settings) {
+        Ok(planned) => planned_notes(alloc, &planned, records),
+        Err(fault) if fault == PlanFault::Memory => Err(AllocError),
+        Err(_) => Ok(None),
+    }
+}
+
+/// The warning about records that submitting the groups of a plan in turn does not leave.
+fn early_note(
+    alloc: Global,
+    planned: &Planned,
+    completions: &[[u8; 32]],
+) -> Result<Option<String>, AllocError> {
     let cuts = cuts_of(alloc, &planned.plan)?;
-    let (completions, _) = records.as_chunks::<32>();
     let Some(Early { begun, unfinished }) = early_in(&cuts, completions) else {
         return Ok(None);
     };
@@ -98,15 +145,16 @@ fn early_note(
 }
 
 /// The notes and warnings about a list and records: how long the records should be; else which operations meet the
-/// records of others; else that submitting the groups of its plan in turn does not leave such records. A record that
-/// pieces share does not say which of them has begun.
+/// records of others; else that a piece may have overwritten its own source, and that submitting the groups of its plan in
+/// turn does not leave such records. A record that pieces share does not say which of them has begun.
 pub(crate) fn resume_notes(
     alloc: Global,
     text: &[u8],
+    keep_fences: bool,
     settings: &Settings,
     records: &[u8],
 ) -> Result<Option<String>, AllocError> {
-    let list = match parse_list(alloc, text, false) {
+    let list = match parse_list(alloc, text, keep_fences) {
         Ok(list) => list,
         Err(TextFault::Memory) => return Err(AllocError),
         Err(TextFault::Grammar(..) | TextFault::List(..)) => return Ok(None),
@@ -125,6 +173,6 @@ pub(crate) fn resume_notes(
     )?;
     match shared {
         Some(notes) => Ok(Some(notes)),
-        None => early_note(alloc, &list, settings, records),
+        None => records_notes(alloc, &list, settings, records),
     }
 }

@@ -6,8 +6,9 @@ ghost use Rattle.dsa_resume.specs.Rest.{remainder_of};
 ghost use Rattle.dsa_text.specs.Resumed.{IsRestText, IsResumeRefusal, NamesResume, ResumesText, resume_words};
 
 use crate::answer::Answer;
+use crate::assembling::passed_over;
 use crate::bytes::bytes_or_refusal;
-use crate::commands::{file, flag, settings_options};
+use crate::commands::{file, flag, keep_fences, settings_options};
 use crate::ending::{ended, without_text};
 use crate::inputs::refused_settings;
 use crate::kept::joined;
@@ -35,7 +36,8 @@ record comes first, as explain shows. They are read as disassemble reads bytes.
 
 What is written are the lines of the pieces that have not finished (status other than 1 and 2), with their barriers:
 plan these, with their records set to zero. If a piece before a barrier has status 2, or --give-up names one, what is
-after the barrier is left out, and a note says so.
+after the barrier is left out, and a note says so. If fences of lines were planned as barriers (--keep-fences of
+explain and assemble), give that option here too.
 
 A list in which an operation writes into the completion record of another is refused, since such a record does not
 say how its own operation has ended. So are records by which a piece has begun although another has not succeeded and
@@ -67,6 +69,7 @@ pub(crate) fn resume_command<'a>(alloc: Global) -> Result<Command<'a>, AllocErro
         .arg(records)?
         .arg(flag(alloc, "failed-first", "write the pieces that failed first"))?
         .arg(given_up)?
+        .arg(keep_fences(alloc))?
         .args(options)
 }
 
@@ -112,14 +115,16 @@ fn given_up_of(alloc: Global, word: Option<&str>) -> Result<Option<Vec<u8>>, All
 fn resume_text(
     alloc: Global,
     text: &[u8],
+    keep_fences: bool,
     settings: &Settings,
     records: &[u8],
     given_up: &[u8],
     order: LeftOrder,
 ) -> Result<Answer, AllocError>
-    ensures { IfOk result (ResumesText text.now settings.now records.now given_up.now order) }
+    ensures { IfOk result (ResumesText text.now keep_fences settings.now records.now
+        given_up.now order) }
 {
-    let list = match parse_list(alloc, text, false) {
+    let list = match parse_list(alloc, text, keep_fences) {
         Ok(list) => list,
         Err(fault) => return Answer::text_fault(alloc, text, fault),
     };
@@ -214,10 +219,11 @@ fn resume_records(
     let Some(given_up) = given_up_of(alloc, matches.get_str("give-up"))? else {
         return Ok(Answer::refused(String::from_str(alloc, NO_PIECES)?));
     };
-    let answer = resume_text(alloc, text, settings, records, &given_up, order)?;
-    let notes = resume_notes(alloc, text, settings, records)?;
+    let keep = matches.get_flag("keep-fences");
+    let answer = resume_text(alloc, text, keep, settings, records, &given_up, order)?;
+    let notes = resume_notes(alloc, text, keep, settings, records)?;
     if answer.status == 0 {
-        return with_notes(answer, notes);
+        return with_notes(answer, joined(passed_over(alloc, text, keep)?, notes)?);
     }
     let mut reason = answer.text;
     if let Some(notes) = notes {

@@ -85,12 +85,38 @@ fn own_fault(alloc: Global, job: &Members) -> Found {
     Ok(None)
 }
 
+/// The kind that a member of settings has to be of, if it is not.
+fn wrong_setting(name: &str, value: &Shape) -> Option<&'static str> {
+    match (name, value) {
+        (_, Shape::Whole(_)) | ("batch", Shape::Array) => None,
+        ("batch", _) => Some("a whole number below 2^64 or an array of such"),
+        (_, _) => Some("a whole number below 2^64"),
+    }
+}
+
+/// Which member of settings is of another kind.
+fn setting_kind_fault(alloc: Global, settings: &Members) -> Found {
+    for name in SETTINGS_MEMBERS {
+        if let Some(kind) = settings.get(name).and_then(|value| wrong_setting(name, value)) {
+            return Ok(Some(format!(in alloc; "`settings`: `{name}` is not {kind}")?));
+        }
+    }
+    Ok(None)
+}
+
+/// What is wrong with the members of settings.
+fn own_settings_fault(alloc: Global, settings: &Members) -> Found {
+    match names_fault(alloc, settings, "`settings`", &SETTINGS_MEMBERS)? {
+        Some(fault) => Ok(Some(fault)),
+        None => setting_kind_fault(alloc, settings),
+    }
+}
+
 /// The same of the members of its settings.
 fn settings_fault(alloc: Global, text: &[u8], job: &Members) -> Found {
-    let whole = "`settings`";
     match (job.get("settings"), settings_members(alloc, text)?) {
-        (Some(_), Some(settings)) => names_fault(alloc, &settings, whole, &SETTINGS_MEMBERS),
-        (Some(_), None) => Ok(Some(format!(in alloc; "{whole} is no object")?)),
+        (Some(_), Some(settings)) => own_settings_fault(alloc, &settings),
+        (Some(_), None) => Ok(Some(String::from_str(alloc, "`settings` is no object")?)),
         (None, _) => Ok(None),
     }
 }

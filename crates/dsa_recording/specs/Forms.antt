@@ -1,6 +1,6 @@
 -- The forms of text that a recording comes in, and the bytes that each spells (this project's choice; the forms are what
 -- xxd, xxd -p and hexdump -C write).
-use Rattle.std.specs.Prelude.{ℕ, Bool, true, ◌≡◌, ◌⊎◌, ◌||◌, ◌&&◌, ◌==◌, nat_lt, nat_le, Option, Some, None, List, [], ◌∷◌, ◌++◌, Ok, Err, if◌then◌else◌}
+use Rattle.std.specs.Prelude.{ℕ, Bool, true, false, ◌≡◌, ◌⊎◌, ◌||◌, ◌&&◌, ◌==◌, nat_lt, nat_le, Option, Some, None, List, [], ◌∷◌, ◌++◌, Ok, Err, if◌then◌else◌}
 use Rattle.std.specs.List.{AllByRecursion}
 use Rattle.std.specs.Char.{digit_value}
 use Rattle.hex.specs.Hex.{decode_of}
@@ -91,12 +91,24 @@ unfoldable pub form_of : List ℕ → Option Form
 form_of [] = Some Plain
 form_of (c ∷ cs) = if is_spread c then form_of cs else form_by c
 
--- the text begins with digits, and a blank, a newline or its end comes after them, as in a text of bytes; no line of a
--- recording does. `seen`: digits come before it
-unfoldable pub begins_with_digits : Bool → List ℕ → Bool
-begins_with_digits seen [] = seen
-begins_with_digits seen (c ∷ cs) =
-    if is_digit c then begins_with_digits true cs else seen && (is_blank c || c == 10)
+-- a blank or a newline
+abbrev pub is_gap : ℕ → Bool
+is_gap c = is_blank c || c == 10
+
+-- what comes after the blanks and newlines at the head of a text
+abbrev pub after_gap : List ℕ → List ℕ
+after_gap [] = []
+after_gap (c ∷ cs) = if is_gap c then after_gap cs else (c ∷ cs)
+
+-- digits, and a blank, a newline, a colon or the end after them. `seen`: digits come before it
+unfoldable pub is_word_of_digits : Bool → List ℕ → Bool
+is_word_of_digits seen [] = seen
+is_word_of_digits seen (c ∷ cs) =
+    if is_digit c then is_word_of_digits true cs else seen && (is_gap c || c == 58)
+
+-- the first word of a text is of digits, and maybe a colon is after them, as in a text of bytes; no line of a recording begins so
+abbrev pub begins_with_digits : List ℕ → Bool
+begins_with_digits text = is_word_of_digits false (after_gap text)
 
 -- ---- the bytes of a text
 

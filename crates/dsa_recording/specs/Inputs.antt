@@ -12,7 +12,7 @@ use Rattle.dsa_recording.specs.Foreign.{AnswersEntries}
 pub record IsInLines (input : List ℕ) : Type 0 where
   pub text : IsText input
   pub formless : form_of input ≡ None
-  pub words : begins_with_digits false input ≡ false
+  pub words : begins_with_digits input ≡ false
 
 -- an input spells its own bytes where it is no text; those of its lines where it is in lines; else those of its digits
 pub data SpellsRecording (input bytes : List ℕ) : Type 0 where

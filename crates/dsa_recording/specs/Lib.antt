@@ -13,6 +13,7 @@ pub mod Reports
 pub mod Overlaps
 pub mod Details
 pub mod Forms
+pub mod Kinds
 pub mod Words
 pub mod Keys
 pub mod Accepted

@@ -3,7 +3,7 @@
 ghost use Rattle.std.specs.Prelude.{◌≡◌, ◌↔◌, ◌⊎◌, ◌++◌, false, Ok, Err, IfOk, OnOk, IsTrue, MatchResult};
 ghost use Rattle.hex.specs.Hex.{decode_of};
 ghost use Rattle.hex.specs.declared.error.FromHexError.TheVariants.{OutOfMemory};
-ghost use Rattle.dsa_recording.specs.Forms.{is_blank, is_digit, part_of_line, first_part, next_part, is_passed, kept, digits_of, is_text_byte, IsText, is_spread, form_by, form_of, begins_with_digits};
+ghost use Rattle.dsa_recording.specs.Forms.{is_blank, is_digit, part_of_line, first_part, next_part, is_passed, kept, digits_of, is_text_byte, IsText, is_spread, form_by, form_of, is_gap, after_gap, is_word_of_digits, begins_with_digits};
 
 use hex::FromHexError;
 use std::alloc::{AllocError, Global};
@@ -200,16 +200,45 @@ pub fn form_of(text: &[u8]) -> Option<Form>
     Some(Form::Plain)
 }
 
-/// Whether the first word of a text has digits alone, as in a text of bytes; no line of a recording begins so.
-pub(crate) fn begins_with_digits(text: &[u8]) -> bool
-    ensures { result ≡ begins_with_digits false text.now }
+/// Whether the byte is a blank or a newline.
+fn is_gap(byte: u8) -> bool
+    ensures { result ≡ is_gap byte }
+{
+    is_blank(byte) || byte == b'\n'
+}
+
+/// What comes after the blanks and newlines at the head of a text.
+pub(crate) fn after_gap(text: &[u8]) -> &[u8]
+    ensures { result.now ≡ after_gap text.now }
+{
+    let mut rest = text;
+    while let [first, after @ ..] = rest {
+        if !is_gap(*first) {
+            return rest;
+        }
+        rest = after;
+    }
+    rest
+}
+
+/// Whether a text is digits, and a blank, a newline, a colon or its end comes after them.
+fn is_word_of_digits(text: &[u8]) -> bool
+    ensures { result ≡ is_word_of_digits false text.now }
 {
     let mut seen = false;
     for byte in text {
         if !is_digit(*byte) {
-            return seen && (is_blank(*byte) || *byte == b'\n');
+            return seen && (is_gap(*byte) || *byte == b':');
         }
         seen = true;
     }
     seen
+}
+
+/// Whether the first word of a text is of digits, and maybe a colon is after them, as in a text of bytes; no line of a
+/// recording begins so.
+pub(crate) fn begins_with_digits(text: &[u8]) -> bool
+    ensures { result ≡ begins_with_digits text.now }
+{
+    is_word_of_digits(after_gap(text))
 }

@@ -160,8 +160,8 @@ pub(crate) fn bytes_of_text_input(
     bytes_of_lines(alloc, text)
 }
 
-/// The report on entries, each batch with its members after it.
-fn audit_entries(
+/// The report on the entries of a recording, each batch with its members after it, as [`audit`] answers it.
+pub fn audit_entries(
     alloc: Global,
     bytes: &[u8],
     settings: &Settings,

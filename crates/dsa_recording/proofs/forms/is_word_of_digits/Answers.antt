@@ -1,19 +1,19 @@
 use Rattle.std.proofs.Common.{get_or, refl, sym, ◌∙◌, arith}
-use Rattle.dsa_recording.proofs.Begun.{begun_more, begun_blank, begun_newline, begun_none, begun_end}
-use Rattle.dsa_recording.proofs.forms.begins_with_digits.Goals as goal
+use Rattle.dsa_recording.proofs.Begun.{begun_more, begun_gap, begun_colon, begun_none, begun_end}
+use Rattle.dsa_recording.proofs.forms.is_word_of_digits.Goals as goal
 
-pub returns-then-is_blank : goal.returns-then-is_blank
-returns-then-is_blank c =
-    c.is_blank.ensures
-    ∙ begun_blank c.loop-byte.seen c.args.text.now c.loop-byte.byte-index (get_or c.args.text.now c.loop-byte.byte-index 0) c.loop-byte-test.true refl
+pub returns-then-is_gap : goal.returns-then-is_gap
+returns-then-is_gap c =
+    c.is_gap.ensures
+    ∙ begun_gap c.loop-byte.seen c.args.text.now c.loop-byte.byte-index (get_or c.args.text.now c.loop-byte.byte-index 0) c.loop-byte-test.true refl
     (sym c.is_digit.ensures ∙ c.if-not-is_digit.true) c.loop-byte.invariant c.if-seen.true
-    (sym c.is_blank.ensures ∙ c.if-is_blank.true)
+    (sym c.is_gap.ensures ∙ c.if-is_gap.true)
 
-pub returns-else-is_blank : goal.returns-else-is_blank
-returns-else-is_blank c =
-    begun_newline c.loop-byte.seen c.args.text.now c.loop-byte.byte-index (get_or c.args.text.now c.loop-byte.byte-index 0) c.loop-byte-test.true refl
+pub returns-else-is_gap : goal.returns-else-is_gap
+returns-else-is_gap c =
+    begun_colon c.loop-byte.seen c.args.text.now c.loop-byte.byte-index (get_or c.args.text.now c.loop-byte.byte-index 0) c.loop-byte-test.true refl
     (sym c.is_digit.ensures ∙ c.if-not-is_digit.true) c.loop-byte.invariant c.if-seen.true
-    (sym c.is_blank.ensures ∙ c.if-is_blank.false)
+    (sym c.is_gap.ensures ∙ c.if-is_gap.false)
 
 pub returns-else-seen : goal.returns-else-seen
 returns-else-seen c =

@@ -1,11 +1,14 @@
 //! What a command answers.
 
 ghost use Rattle.std.specs.Prelude.{◌≡◌, IfOk};
+ghost use Rattle.dsa_calls.specs.Fault.{list_cause};
 ghost use Rattle.dsa_text.specs.Refusals.{IsRefusal, RefusesText, explain_cause};
 
-use crate::messages::{grammar_message, line_message, message_of, message_with};
+use crate::messages::{grammar_message, line_message, list_message, message_of, message_with};
 use crate::mistakes::{grammar_mistakes, list_mistakes};
+use crate::words::{line_at, other_than_lines};
 use dsa_calls::PlanFault;
+use dsa_descriptor::ListFault;
 use dsa_explain::ExplainFault;
 use dsa_lines::TextFault;
 use dsa_splitter::SplitFault;
@@ -77,7 +80,19 @@ impl Answer {
         Ok(Answer::refused(message_with(alloc, fault, words)?))
     }
 
-    /// The refusal of a text, which names each line that is wrong, up to 20.
+    /// The refusal of the bytes of a list, with the values that are at fault.
+    pub(crate) fn list_fault(
+        alloc: Global,
+        list: &[u8],
+        fault: ListFault,
+    ) -> Result<Answer, AllocError>
+        ensures { IfOk result (IsRefusal (list_cause fault)) }
+    {
+        Ok(Answer::refused(list_message(alloc, list, fault)?))
+    }
+
+    /// The refusal of a text, which names each line that is wrong, up to 20; but of a line that is none of a text of
+    /// operations, as those of a dump or of JSON, the first alone.
     pub(crate) fn text_fault(
         alloc: Global,
         text: &[u8],
@@ -88,6 +103,9 @@ impl Answer {
         match fault {
             TextFault::Grammar(line, column, expected) => {
                 let first = grammar_message(alloc, text, line, column, expected)?;
+                if other_than_lines(line_at(text, line)).is_some() {
+                    return Ok(Answer::refused(first));
+                }
                 let all = grammar_mistakes(alloc, text, line, first)?;
                 Ok(Answer::refused(all))
             }

@@ -20,7 +20,7 @@ use std::alloc::{AllocError, Global};
 fn disassemble_list(alloc: Global, list: &[u8]) -> Result<Answer, AllocError> {
     match dsa_lines::disassemble(alloc, list) {
         Ok(text) => Ok(Answer::done(text)),
-        Err(fault) => Answer::fault(alloc, PlanFault::from(fault)),
+        Err(fault) => Answer::list_fault(alloc, list, fault),
     }
 }
 
@@ -33,7 +33,7 @@ fn disassemble_fenced(alloc: Global, list: &[u8]) -> Result<Answer, AllocError>
             let text = text_with_barriers(alloc, &read.descriptors, &read.barriers)?;
             Ok(Answer::done(text))
         }
-        Err(fault) => Answer::fault(alloc, PlanFault::from(fault)),
+        Err(fault) => Answer::list_fault(alloc, list, fault),
     }
 }
 

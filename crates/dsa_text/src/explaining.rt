@@ -149,7 +149,7 @@ pub fn explain_list(
             let plain = DescriptorList::without_barriers(alloc, operations);
             explain_operations(alloc, &plain, settings, form, Source::Job)
         }
-        Err(fault) => Answer::fault(alloc, PlanFault::from(fault)),
+        Err(fault) => Answer::list_fault(alloc, list, fault),
     }
 }
 

@@ -1,8 +1,46 @@
 //! The values that are at fault in an operation that can't be listed.
 
-use dsa_descriptor::{FieldFault, Span, op_at, record_span, u32_at, u64_at};
+use dsa_descriptor::{FieldFault, Op, Span, op_at, record_span, u32_at, u64_at};
 use dsa_ranges::meets;
 use std::alloc::{AllocError, Global};
+
+/// The flags that a list has to have, and their names in words (`linux/idxd.h`).
+const REQUIRED: [(u32, &str); 2] = [(0x0004, "record address valid"), (0x0008, "request record")];
+
+/// The flags below bit 16 that a list may not have: check result if it is no compare, and fence if it has no barriers.
+const REFUSED: [(u32, &str); 4] = [
+    (0x0010, "interrupt"),
+    (0x0040, "reserved"),
+    (0x0080, "check result"),
+    (0x0001, "fence"),
+];
+
+/// Whether an operation may have check result.
+fn is_compare(op: Option<Op>) -> bool {
+    match op {
+        Some(Op::Compare { .. } | Op::ComparePattern { .. }) => true,
+        Some(Op::Move { .. } | Op::Fill { .. } | Op::ApplyDelta { .. } | Op::Dualcast { .. })
+        | None => false,
+    }
+}
+
+/// Writes the first flag that is missing, or else the first that may not be set.
+fn push_flags(alloc: Global, text: &mut String, entry: &[u8; 64]) -> Result<(), AllocError> {
+    let flags = u32_at(entry, 4) % (1 << 24);
+    for (bit, name) in REQUIRED {
+        if flags & bit == 0 {
+            return text.push_str(&format!(in alloc; ": 0x{bit:04x} ({name}) is not set")?);
+        }
+    }
+    let allowed = if is_compare(op_at(entry)) { 0x80 } else { 0 };
+    for (bit, name) in REFUSED {
+        if flags & bit & !allowed != 0 {
+            return text.push_str(&format!(in alloc; ": 0x{bit:04x} ({name}) is set")?);
+        }
+    }
+    let high = flags & 0xff_0000;
+    text.push_str(&format!(in alloc; ": 0x{high:06x} (reserved) is set")?)
+}
 
 /// Writes the addresses of a span, the first and the last.
 fn push_span(alloc: Global, text: &mut String, span: Span) -> Result<(), AllocError> {
@@ -107,8 +145,8 @@ pub(crate) fn push_values(
         FieldFault::RecordMeetsData => push_record(alloc, text, entry),
         FieldFault::Wrap => push_wrap(alloc, text, entry),
         FieldFault::Delta => push_delta(alloc, text, entry),
+        FieldFault::FlagBits => push_flags(alloc, text, entry),
         FieldFault::Opcode
-        | FieldFault::FlagBits
         | FieldFault::Reserved
         | FieldFault::SizeZero
         | FieldFault::RecordAlign

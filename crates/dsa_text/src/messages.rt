@@ -201,6 +201,44 @@ fn push_line_values(
     }
 }
 
+/// Writes the values that are at fault in the operation of a list.
+fn push_list_values(
+    alloc: Global,
+    text: &mut String,
+    list: &[u8],
+    fault: ListFault,
+) -> Result<(), AllocError> {
+    let (entries, _) = list.as_chunks::<64>();
+    match fault {
+        ListFault::Field(index, fault) => match entries.get(index) {
+            Some(entry) => push_values(alloc, text, entry, fault),
+            None => Ok(()),
+        },
+        ListFault::MixedPasid(index) => match (entries.get(index), entries.first()) {
+            (Some(entry), Some(first)) => {
+                push_owners(alloc, text, u32_at(entry, 0), u32_at(first, 0))
+            }
+            (Some(_) | None, Some(_) | None) => Ok(()),
+        },
+        ListFault::Length | ListFault::Memory => Ok(()),
+    }
+}
+
+/// The message of bytes that are no list.
+pub(crate) fn list_message(
+    alloc: Global,
+    list: &[u8],
+    fault: ListFault,
+) -> Result<String, AllocError>
+    ensures { IfOk result (λ s. NamesCause (list_cause fault) (string_bytes s)) }
+{
+    let mut text = String::from_str(alloc, "error: ")?;
+    push_cause(alloc, &mut text, PlanFault::from(fault))?;
+    push_list_values(alloc, &mut text, list, fault)?;
+    push_name(alloc, &mut text, PlanFault::from(fault))?;
+    Ok(text)
+}
+
 /// The message of an operation of a text that can't be listed.
 pub(crate) fn line_message(
     alloc: Global,

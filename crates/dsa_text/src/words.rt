@@ -2,6 +2,7 @@
 
 use dsa_descriptor::{FieldFault, ListFault};
 use dsa_lines::{Expected, operation_bytes};
+use dsa_recording::{InputKind, kind_of};
 use std::alloc::{AllocError, Global};
 
 /// The most bytes of a word that a message shows.
@@ -219,6 +220,34 @@ fn hint_of_other(word: &[u8]) -> Option<&'static str> {
     None
 }
 
+/// The fewest digits that a dump begins with.
+const LEAST_DUMPED: usize = 8;
+
+/// What helps for a line of a dump. A word of few digits may be another.
+fn hint_of_dump(line: &[u8]) -> Option<&'static str> {
+    let Some(digits) = line.trim_ascii().get(..LEAST_DUMPED) else {
+        return None;
+    };
+    if digits.iter().all(u8::is_ascii_hexdigit) {
+        Some("a dump of bytes, which explain and disassemble read if only blanks are before it")
+    } else {
+        None
+    }
+}
+
+/// What helps for a line, or its first word, that is none of a text of operations but one of bytes, a dump, or JSON.
+pub(crate) fn other_than_lines(line: &[u8]) -> Option<&'static str> {
+    match kind_of(line) {
+        InputKind::Bytes => Some("bytes, which explain and disassemble read"),
+        InputKind::Job => Some("a job, which explain reads if only blanks are before it"),
+        InputKind::Dump => hint_of_dump(line),
+        InputKind::Lines => match line.trim_ascii() {
+            [b'[', ..] => Some("a plan, which a job to judge has beside its list"),
+            _ => None,
+        },
+    }
+}
+
 /// What helps if an operation was expected.
 fn hint_of_operation(word: &[u8]) -> Option<&'static str> {
     match word {
@@ -226,6 +255,9 @@ fn hint_of_operation(word: &[u8]) -> Option<&'static str> {
         [b'/', b'/', ..] | [b';', ..] => return Some("a comment begins with #"),
         b"unknown" => return Some("an entry that is no listed descriptor, so it can't be planned"),
         _ => {}
+    }
+    if let Some(hint) = other_than_lines(word) {
+        return Some(hint);
     }
     let is_upper = word.iter().any(|byte| byte.is_ascii_uppercase());
     if is_upper && WORDS.iter().any(|known| word.eq_ignore_ascii_case(known)) {

@@ -1,10 +1,8 @@
-use Rattle.std.proofs.Common.{map, ap, subst, ◌∙◌}
+use Rattle.std.proofs.Common.{map, ap, ◌∙◌}
 use Rattle.std.specs.Prelude.{string_bytes}
 use Rattle.std.proofs.lemmas.Result.{IfOk-weaker}
 use Rattle.dsa_descriptor.specs.Descriptors.{fields}
-use Rattle.dsa_calls.specs.declared.fault.PlanFault.{PlanFault}
 use Rattle.dsa_lines.specs.Barriers.{marked_text}
-use Rattle.dsa_text.specs.Refusals.{IsRefusal}
 use Rattle.dsa_text.specs.Disassembled.{is_listed, is_refused}
 use Rattle.dsa_text.proofs.disassembling.disassemble_fenced.Goals as goal
 
@@ -17,5 +15,4 @@ returns-in_ok-text-in-Ok c =
 
 pub returns-in-Err : goal.returns-in-Err
 returns-in-Err c =
-    IfOk-weaker c.fault.result _ _
-    (λ a x. is_refused c.in-Err.fault c.in-Err.ensures.fault (subst (λ (f : PlanFault). IsRefusal f a) c.from.ensures x)) c.fault.ensures
+    IfOk-weaker c.list_fault.result _ _ (λ a x. is_refused c.in-Err.fault c.in-Err.ensures.fault x) c.list_fault.ensures

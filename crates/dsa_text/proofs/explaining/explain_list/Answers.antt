@@ -1,6 +1,7 @@
-use Rattle.std.proofs.Common.{Bool, IfOk, List, [], sym, subst}
+use Rattle.std.proofs.Common.{Bool, IfOk, List, [], refl, sym, subst}
 use Rattle.std.proofs.lemmas.Result.{IfOk-weaker}
 use Rattle.dsa_descriptor.specs.declared.descriptor.Descriptor.{Descriptor}
+use Rattle.dsa_calls.specs.Fault.{list_cause}
 use Rattle.dsa_calls.specs.Lists.{IsListOf}
 use Rattle.dsa_calls.specs.Planned.{PlansOperations, Submission}
 use Rattle.dsa_calls.proofs.Over.{list_refused}
@@ -17,5 +18,5 @@ returns-in-Ok c =
 
 pub returns-in-Err : goal.returns-in-Err
 returns-in-Err c =
-    let told = list_refused {X = Submission} {Y = Submission} (λ p. p) (λ fs o. PlansOperations c.args.settings.now fs o) c.args.list.now c.in-Err.fault c.from.result c.from.ensures c.in-Err.ensures.fault in
-    IfOk-weaker c.fault.result _ _ (λ a h. is_refused_list c.from.result told h) c.fault.ensures
+    let told = list_refused {X = Submission} {Y = Submission} (λ p. p) (λ fs o. PlansOperations c.args.settings.now fs o) c.args.list.now c.in-Err.fault (list_cause c.in-Err.fault) refl c.in-Err.ensures.fault in
+    IfOk-weaker c.list_fault.result _ _ (λ a h. is_refused_list (list_cause c.in-Err.fault) told h) c.list_fault.ensures

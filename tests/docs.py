@@ -81,11 +81,9 @@ def USING():
     ):
         session(block_after("docs/USING.md", words))
     # the list has nine operations that one batch holds; three wait for the one before, and two come after a barrier
-    with tempfile.TemporaryDirectory() as folder:
-        list_of = "dsa_text audit --list examples/audit/engine.xxd"
-        got = printed(f"{list_of} > {folder}/list.txt && dsa_text explain --greatest-transfer 2048M {folder}/list.txt")
-        wanted = "cost 29; 9 lone submissions cost 90, saved 61\n"
-        expect(got.endswith(wanted), f"docs/USING.md: the list of the recording is explained as {got!r}")
+    got = printed("dsa_text explain --greatest-transfer 2048M examples/audit/engine.xxd")
+    wanted = "cost 29; 9 lone submissions cost 90, saved 61\n"
+    expect(got.endswith(wanted), f"docs/USING.md: the recording is explained as {got!r}")
     noted(block_after("docs/USING.md", checking, "sh"))
 
 

@@ -17,6 +17,7 @@ from pathlib import Path
 import common
 import folded
 import golden
+import kinds
 import noted
 import pictured
 import typed
@@ -758,6 +759,12 @@ def suspicious():
     noted.suspicious(TEXT)
 
 
+def inputs():
+    """What an input is taken for."""
+    for part in kinds.PARTS:
+        part(TEXT)
+
+
 def barriers():
     """Random lists with barriers."""
     typed.barriers(TEXT)
@@ -775,7 +782,7 @@ def resumed():
 
 PARTS = [examples, lists, refusals, arguments, lines, grammar, texts, mistakes, sizes, fences, missing, shared_records]
 PARTS += [sentences, large, split, folds, picture, pictures, reasons_drawn, names_drawn]
-PARTS += [overlaps, suspicious, named_files]
+PARTS += [overlaps, suspicious, inputs, named_files]
 PARTS += [forms_of_bytes, members, waits, barriers, resumed, files]
 
 

@@ -27,7 +27,8 @@ use Rattle.dsa_text.specs.Shown.{AnswersPlan, AnswersSubject, ShowsPlan, TellsPl
 use Rattle.clap.specs.declared.parser.matches.ArgMatches.{ArgMatches}
 use Rattle.dsa_explain.specs.declared.picture.PieceRange.{PieceRange}
 use Rattle.dsa_text.specs.Options.{IsFlag, range_of}
-use Rattle.dsa_text.specs.Inputs.{ExplainsAs, ExplainsInput, is_job, names_pieces}
+use Rattle.dsa_text.specs.Inputs.{ExplainsInput, ExplainsSaid, names_pieces}
+use Rattle.dsa_text.specs.Taken.{said_in}
 
 -- what holds of an answer by two clauses
 pub both : {T E : Type 0} (r : Result T E) (P Q R : T → Type 0) → ((a : T) → P a → Q a → R a) → IfOk r P → IfOk r Q → IfOk r R
@@ -92,7 +93,7 @@ subject_untold s detail x plan ds bs fault e f g told =
     subst (λ (p : List Bool). Explains s detail ds p plan (Err fault)) g second
 
 -- what is said beside an answer, as warnings, changes neither its status nor its text
-refused_beside : (fault : PlanFault) (a b : Answer) → b.status ≡ a.status → b.text ≡ a.text → IsRefusal fault a → IsRefusal fault b
+pub refused_beside : (fault : PlanFault) (a b : Answer) → b.status ≡ a.status → b.text ≡ a.text → IsRefusal fault a → IsRefusal fault b
 refused_beside fault a b status text r =
     record { status = status ∙ r.status; cause = subst (λ (t : List ℕ). NamesCause fault t) (sym (ap string_bytes text)) r.cause }
 
@@ -141,11 +142,11 @@ same_cause r told fault o p e is is' h =
 
 -- ---- an input
 
--- explained as the input's kind, in the form that the flags ask for
-pub as_input : {E : Type 0} (r : Result Answer E) (m : ArgMatches) (text : List ℕ) (range : PieceRange) (svg json waits all b : Bool) (form : Form) → is_job text ≡ b
+-- explained as what is said or seen, in the form that the flags ask for
+pub as_input : {E : Type 0} (r : Result Answer E) (m : ArgMatches) (input : List ℕ) (range : PieceRange) (svg json waits all : Bool) (form : Form)
     → range_of m ≡ Some range → IsFlag m (codes "svg") svg → IsFlag m (codes "json") json → IsFlag m (codes "waits") waits → IsFlag m (codes "all") all
-    → form ≡ form_of range svg json waits all → IfOk r (ExplainsAs b m text form) → IfOk r (ExplainsInput m text)
-as_input r m text range svg json waits all b form kind named svg_is json_is waits_is all_is same h =
+    → form ≡ form_of range svg json waits all → IfOk r (ExplainsSaid (said_in m) m input form) → IfOk r (ExplainsInput m input)
+as_input r m input range svg json waits all form named svg_is json_is waits_is all_is same h =
     IfOk-weaker r _ _ (λ a x.
     names_pieces range svg json waits all named svg_is json_is waits_is all_is
-    (subst (λ (k : Bool). ExplainsAs k m text (form_of range svg json waits all) a) (sym kind) (subst (λ (f : Form). ExplainsAs b m text f a) same x))) h
+    (subst (λ (f : Form). ExplainsSaid (said_in m) m input f a) same x)) h

@@ -7,7 +7,7 @@ use Rattle.dsa_descriptor.specs.Fields.{Fields}
 use Rattle.dsa_lines.specs.Texts.{line_fields, lines_of, TextSpells}
 use Rattle.dsa_lines.specs.Words.{words_of}
 use Rattle.dsa_text.specs.declared.unplanned.Source.{Source}
-use Rattle.dsa_text.specs.declared.unplanned.Source.TheVariants.{Text, Job}
+use Rattle.dsa_text.specs.declared.unplanned.Source.TheVariants.{Text, List as Listed, Job}
 
 -- what is after the first # of a line
 abbrev pub after_mark : List ℕ → List ℕ
@@ -41,6 +41,7 @@ names_of (line ∷ lines) = line_names line (line_fields (words_of line)) ++ nam
 -- the names of operations, by where they come from: those of a job have none
 abbrev pub names_from : Source → List (List ℕ)
 names_from (Text text) = names_of (lines_of text.now)
+names_from Listed = []
 names_from Job = []
 
 -- a text that spells operations has a name for each

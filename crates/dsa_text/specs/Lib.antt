@@ -7,6 +7,8 @@ pub mod Jobs
 pub mod Numbers
 pub mod SettingsWords
 pub mod Options
+pub mod Recorded
+pub mod Taken
 pub mod Inputs
 pub mod Audited
 pub mod Stale

@@ -21,7 +21,7 @@ pub struct Answer {
     pub text: String,
     /// The status of the program: 0 for an answer and 1 for a refusal.
     pub status: u8,
-    /// Notes and warnings beside an answer, for standard error.
+    /// Notes and warnings beside it, for standard error.
     pub warnings: Option<String>,
 }
 
@@ -50,11 +50,14 @@ impl Answer {
         }
     }
 
-    /// The same, with these warnings beside it.
+    /// The same, with these warnings beside it if it is an answer.
     pub(crate) fn with_warnings(self, warnings: Option<String>) -> Answer
         ensures text { result.text ≡ self.text }
         ensures status { result.status ≡ self.status }
     {
+        if self.status != 0 {
+            return self;
+        }
         Answer {
             text: self.text,
             status: self.status,

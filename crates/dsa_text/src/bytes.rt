@@ -1,5 +1,10 @@
 //! Bytes as hexadecimal text, in any form that `audit` reads, or as they are.
 
+ghost use Rattle.std.specs.Prelude.{IfOk, MatchResult};
+ghost use Rattle.dsa_calls.specs.declared.fault.PlanFault.TheVariants.{Hex};
+ghost use Rattle.dsa_recording.specs.Forms.{SpellsBytes, SpellsNone};
+ghost use Rattle.dsa_text.specs.Refusals.{IsRefusal};
+
 use crate::answer::Answer;
 use dsa_calls::PlanFault;
 use dsa_recording::{BytesFault, bytes_of_input};
@@ -9,7 +14,12 @@ use std::alloc::{AllocError, Global};
 pub(crate) fn bytes_or_refusal(
     alloc: Global,
     text: &[u8],
-) -> Result<Result<Vec<u8>, Answer>, AllocError> {
+) -> Result<Result<Vec<u8>, Answer>, AllocError>
+    ensures { IfOk result
+        (λ read. MatchResult read
+        (λ bytes. SpellsBytes text.now bytes.items)
+        (λ a. SpellsNone text.now × IsRefusal Hex a)) }
+{
     match bytes_of_input(alloc, text) {
         Ok(bytes) => Ok(Ok(bytes)),
         Err(BytesFault::Memory) => Err(AllocError),

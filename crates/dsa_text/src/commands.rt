@@ -31,16 +31,24 @@ const EXPLAINED: &str = "The input is lines of operations, as docs/FORMATS.md ha
 
 with a line \"barrier\" where the next operation begins only after all before it have succeeded, and
 with lines that disassemble writes of a portal and a staging area. Batches and fences in these are passed
-over, since a plan sets them anew; --keep-fences takes each fence for a barrier. Or the input is a job,
-which begins with a brace and has settings of its own, so that the options from --greatest-batch on are refused:
+over, since a plan sets them anew; --keep-fences takes each fence for a barrier. Or the input is
+
+- the bytes of a list, whose fences are barriers,
+- those of a recording, of which the lines of audit --list are explained,
+- a dump of such bytes, as xxd, xxd -p and hexdump -v -C write it, or
+- a job, which begins with a brace and has settings of its own: the options from --greatest-batch on are refused:
 
   {\"do\":\"plan\",\"list\":..,\"settings\":..}               the plan of least cost
   {\"do\":\"judge\",\"list\":..,\"plan\":..,\"settings\":..}    a plan of one's own, and what the least plan costs
   {\"do\":\"check\",\"certificate\":..,\"portal\":..,\"settings\":..,\"staging\":..}
 
+Which it is, explain sees, and says of bytes: these have a byte 0, a dump begins with a word of hexadecimal digits, and
+a recording has a batch. If that is wrong, --as decides.
+
 Sizes are in bytes, prices in one unit of your choice. Numbers are decimal, or hexadecimal after 0x.
 Examples:
   dsa_text explain --lone 10 --batch 14 --fence 3 store.txt
+  dsa_text explain --greatest-transfer 2048M recording.bin
   dsa_text assemble --job store.txt | dsa_text explain -
   dsa_text explain --svg judge.job > plan.svg";
 
@@ -193,6 +201,15 @@ fn piece<'a>(alloc: Global, name: &'a str, help: &'a str) -> Result<Arg<'a>, All
         .requires_arg("svg")
 }
 
+/// The option of what an input is taken as.
+fn taken_as<'a>(alloc: Global) -> Arg<'a> {
+    Arg::new(alloc, "as")
+        .long("as")
+        .value_name("WHAT")
+        .action(ArgAction::Set)
+        .help("what the input is: text, list or recording")
+}
+
 /// The command `explain`.
 fn explain_command<'a>(alloc: Global) -> Result<Command<'a>, AllocError> {
     let options = settings_options(alloc)?;
@@ -210,7 +227,7 @@ fn explain_command<'a>(alloc: Global) -> Result<Command<'a>, AllocError> {
     let from = piece(alloc, "from", "the first piece that --svg draws")?;
     let to = piece(alloc, "to", "the last one")?;
     Command::new(alloc, "explain")
-        .about("Reads lines or a job to plan, judge or check, and tells what the plan does and why")
+        .about("Reads lines, a list, a recording or a job, and tells what the plan does and why")
         .after_help(EXPLAINED)
         .arg(file(alloc))?
         .arg(flag(alloc, "svg", "draw the plan"))?
@@ -224,6 +241,7 @@ fn explain_command<'a>(alloc: Global) -> Result<Command<'a>, AllocError> {
         )?
         .arg(from)?
         .arg(to)?
+        .arg(taken_as(alloc))?
         .arg(keep_fences(alloc))?
         .args(options)
 }

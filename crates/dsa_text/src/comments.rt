@@ -66,7 +66,7 @@ fn harmless(text: &str) -> &str
 
 /// The comment of a line; empty if it has none, or one that is not shown.
 #[tactic(auto, using(crate::proofs::Named::is_text, crate::proofs::Named::is_no_text))]
-fn comment_of(line: &[u8]) -> &str
+pub(crate) fn comment_of(line: &[u8]) -> &str
     ensures { result.now ≡ comment_of line.now }
 {
     match str::from_utf8(after_mark(line)) {
@@ -154,7 +154,7 @@ fn comments_of(alloc: Global, text: &[u8], is_drawn: bool) -> Result<Comments, A
     }
 }
 
-/// What comments name, by where operations come from: nothing in a job, and buffers only for pictures.
+/// What comments name, by where operations come from: nothing but in a text, and buffers only for pictures.
 pub(crate) fn comments_in(
     alloc: Global,
     source: Source<'_>,
@@ -164,7 +164,7 @@ pub(crate) fn comments_in(
 {
     match source {
         Source::Text(text) => comments_of(alloc, text, is_drawn),
-        Source::Job => Ok(Comments {
+        Source::List | Source::Job => Ok(Comments {
             names: Vec::new(alloc),
             buffers: Vec::new(alloc),
         }),

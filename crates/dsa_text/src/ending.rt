@@ -45,23 +45,23 @@ pub(crate) fn written(rt: &HostRuntime, text: &str, status: u8) -> ExitCode {
     }
 }
 
-/// Writes an answer to standard output and its warnings to standard error, and ends. The status is that of the answer,
-/// also if the warnings can't be written.
-fn written_answer(rt: &HostRuntime, answer: &Answer) -> ExitCode {
-    let code = written(rt, &answer.text, 0);
+/// Writes notes and warnings to standard error, if that is there.
+fn say_warnings(rt: &HostRuntime, answer: &Answer) {
     if let Some(warnings) = &answer.warnings {
         say(rt, warnings);
     }
-    code
 }
 
-/// Writes an answer with its warnings, or why there is none to standard error, and ends.
+/// Writes an answer to standard output and then its warnings to standard error, or these and why there is no answer,
+/// and ends. The status is the same if the warnings can't be written.
 pub(crate) fn ended(rt: &HostRuntime, answer: &Answer) -> ExitCode {
     if answer.status == 0 {
-        written_answer(rt, answer)
-    } else {
-        refuse(rt, &answer.text)
+        let code = written(rt, &answer.text, 0);
+        say_warnings(rt, answer);
+        return code;
     }
+    say_warnings(rt, answer);
+    refuse(rt, &answer.text)
 }
 
 /// Writes what the parser of the arguments says: its help, or why the arguments are refused.

@@ -1,7 +1,8 @@
-//! `explain`: what the plan of a text or a job does and why.
+//! `explain`: what the plan of a text, of the bytes of a list or of a job does and why.
 
 ghost use Rattle.std.specs.Prelude.{◌≡◌, ◌⊎◌, ◌≤◌, [], IfOk, List, Some, Err, length, map, ℕ};
 ghost use Rattle.dsa_descriptor.specs.Descriptors.{fields};
+ghost use Rattle.dsa_descriptor.specs.Fences.{barriers_of, unfenced_list};
 ghost use Rattle.dsa_descriptor.specs.Pieces.{most_pieces};
 ghost use Rattle.dsa_plan.specs.EmissionFaults.{IsEmission};
 ghost use Rattle.dsa_plan.specs.Certificate.{contents};
@@ -21,6 +22,7 @@ use crate::comments::comments_in;
 use crate::decimals::decimal_notes;
 use crate::form::Form;
 use crate::kept::{barrier_notes, joined, unkept_notes};
+use crate::listed::listed_note;
 use crate::origins::origins_of;
 use crate::overlapping::overlap_notes;
 use crate::overwritten::overwritten_notes;
@@ -28,7 +30,7 @@ use crate::rows::warnings_of;
 use crate::shown::{Subject, answer_plan, plain};
 use crate::unplanned::{Source, unplanned};
 use dsa_calls::{PlanFault, Planned, check_plan, plan_operations};
-use dsa_descriptor::{Descriptor, DescriptorList, read_list};
+use dsa_descriptor::{Descriptor, DescriptorList, read_descriptor_list, read_list};
 use dsa_explain::{Buffer, Labels};
 use dsa_lines::parse_list;
 use dsa_plan::{Certificate, Plan, Settings, read_emission};
@@ -90,7 +92,7 @@ pub(crate) fn operation_notes(
 }
 
 /// The same, with the notes and warnings about its operations, about fences that the plan does
-/// not keep, about barriers that a tracker does not see, and about the text.
+/// not keep, about barriers that a tracker does not see, about the text, and about what the list does not have.
 fn answer_with_warnings(
     alloc: Global,
     list: &DescriptorList,
@@ -113,7 +115,8 @@ fn answer_with_warnings(
     let of_operations = operation_notes(alloc, operations, settings)?;
     let checks = check_notes(alloc, source, operations, marks, &planned.plan, settings)?;
     let of_text = joined(checks, decimal_notes(alloc, source)?)?;
-    let warnings = joined(of_operations, joined(of_barriers, of_text)?)?;
+    let of_list = joined(listed_note(alloc, source, operations)?, of_operations)?;
+    let warnings = joined(of_list, joined(of_barriers, of_text)?)?;
     Ok(answer.with_warnings(warnings))
 }
 
@@ -135,7 +138,7 @@ fn explain_operations(
     }
 }
 
-/// What the plan of least cost of a list does and why, in this form.
+/// What the plan of least cost of a list without barriers does and why, in this form.
 pub fn explain_list(
     alloc: Global,
     list: &[u8],
@@ -149,6 +152,22 @@ pub fn explain_list(
             let plain = DescriptorList::without_barriers(alloc, operations);
             explain_operations(alloc, &plain, settings, form, Source::Job)
         }
+        Err(fault) => Answer::list_fault(alloc, list, fault),
+    }
+}
+
+/// What the plan of least cost of a list does and why, in this form. Each fence of the list is a barrier.
+pub fn explain_fenced(
+    alloc: Global,
+    list: &[u8],
+    settings: &Settings,
+    form: Form,
+) -> Result<Answer, AllocError>
+    ensures { IfOk result (ExplainsList
+        (unfenced_list list.now) (barriers_of list.now) [] settings.now form) }
+{
+    match read_descriptor_list(alloc, list) {
+        Ok(operations) => explain_operations(alloc, &operations, settings, form, Source::List),
         Err(fault) => Answer::list_fault(alloc, list, fault),
     }
 }

@@ -1,34 +1,27 @@
-//! `explain` of an input: of a job, or of operations with settings from the options.
+//! `explain` of an input: of a job, or of operations in lines, a list or a recording, with settings from the options.
 
 ghost use Rattle.std.specs.Prelude.{◌≡◌, IfOk, string_bytes};
 ghost use Rattle.dsa_calls.specs.declared.fault.PlanFault.TheVariants.{Settings as Outside};
-ghost use Rattle.dsa_text.specs.Inputs.{ExplainsInput, ExplainsOperations, ExplainsWithOptions, is_job, options_message};
+ghost use Rattle.dsa_recording.specs.Kinds.{kind_of};
+ghost use Rattle.dsa_text.specs.Inputs.{ExplainsAs, ExplainsBytes, ExplainsContent, ExplainsInput, ExplainsOperations, ExplainsSaid, ExplainsSeen, ExplainsWithOptions, options_message};
 ghost use Rattle.dsa_text.specs.Refusals.{IsRefusal};
+ghost use Rattle.dsa_text.specs.Taken.{content_in, said_in};
 
 use crate::answer::Answer;
-use crate::explaining::explain_text;
+use crate::bytes::bytes_or_refusal;
+use crate::explaining::{explain_fenced, explain_text};
 use crate::form::{Form, form_of};
 use crate::jobs::explain_job_text;
 use crate::options::{are_settings_given, range_of, settings_words};
+use crate::recorded::explain_recording;
 use crate::settings::{SettingsWords, settings_fault, settings_of};
+use crate::taken::{Content, Spelling, content_in, noted, said_in, taken_note, taken_text};
 use clap::ArgMatches;
 use dsa_calls::PlanFault;
+use dsa_plan::Settings;
+use dsa_recording::{InputKind, is_binary, kind_of};
 use dsa_sentences::TextCause;
 use std::alloc::{AllocError, Global};
-
-/// Whether an input is a job: a brace is its first byte that is no blank.
-fn is_job(text: &[u8]) -> bool
-    ensures { result ≡ is_job text.now }
-{
-    let mut rest = text;
-    while let [first, after @ ..] = rest {
-        if !first.is_ascii_whitespace() {
-            return *first == b'{';
-        }
-        rest = after;
-    }
-    false
-}
 
 /// The refusal of settings that the words spell.
 pub(crate) fn refused_settings(
@@ -74,30 +67,149 @@ fn explain_with_options(
     explain_job_text(alloc, text, form)
 }
 
+/// What `explain` answers to operations, by what they are in.
+fn explain_content(
+    alloc: Global,
+    content: Content,
+    input: &[u8],
+    keep_fences: bool,
+    settings: &Settings,
+    form: Form,
+) -> Result<Answer, AllocError>
+    ensures { IfOk result (ExplainsContent content input.now keep_fences settings.now form) }
+{
+    match content {
+        Content::Text => explain_text(alloc, input, keep_fences, settings, form),
+        Content::List => explain_fenced(alloc, input, settings, form),
+        Content::Recording => explain_recording(alloc, input, settings, form),
+    }
+}
+
 /// What `explain` answers to operations, with the settings that the options spell.
 fn explain_operations(
     alloc: Global,
     matches: &ArgMatches<'_>,
-    text: &[u8],
+    content: Content,
+    input: &[u8],
     form: Form,
 ) -> Result<Answer, AllocError>
-    ensures { IfOk result (ExplainsOperations matches.now text.now form) }
+    ensures { IfOk result (ExplainsOperations content matches.now input.now form) }
 {
     let words = settings_words(matches);
     let keep_fences = matches.get_flag("keep-fences");
     match settings_of(alloc, &words)? {
-        Some(settings) => explain_text(alloc, text, keep_fences, &settings, form),
+        Some(settings) => explain_content(alloc, content, input, keep_fences, &settings, form),
         None => refused_settings(alloc, &words),
     }
 }
 
-/// What `explain` answers to a job, which begins with a brace and has settings of its own, or to a text.
+/// What `explain` answers to bytes, with a note that says what they are taken as.
+fn explain_taken(
+    alloc: Global,
+    matches: &ArgMatches<'_>,
+    said: Option<Content>,
+    bytes: &[u8],
+    spelling: Spelling,
+    form: Form,
+) -> Result<Answer, AllocError>
+    ensures { IfOk result (ExplainsOperations
+        (content_in said bytes.now) matches.now bytes.now form) }
+{
+    let content = content_in(said, bytes);
+    let note = taken_note(alloc, said, taken_text(content, spelling))?;
+    let answer = explain_operations(alloc, matches, content, bytes, form)?;
+    noted(answer, note)
+}
+
+/// What `explain` answers to the bytes of an input: to its own, or to those of a dump.
+fn explain_bytes(
+    alloc: Global,
+    matches: &ArgMatches<'_>,
+    said: Option<Content>,
+    input: &[u8],
+    form: Form,
+) -> Result<Answer, AllocError>
+    ensures { IfOk result (ExplainsBytes said matches.now input.now form) }
+{
+    if is_binary(input) {
+        return explain_taken(alloc, matches, said, input, Spelling::Own, form);
+    }
+    match bytes_or_refusal(alloc, input)? {
+        Ok(bytes) => explain_taken(alloc, matches, said, &bytes, Spelling::Dump, form),
+        Err(refusal) => noted(refusal, taken_note(alloc, said, "a dump")?),
+    }
+}
+
+/// What `explain` answers to an input as what it is.
+fn explain_seen(
+    alloc: Global,
+    matches: &ArgMatches<'_>,
+    input: &[u8],
+    form: Form,
+) -> Result<Answer, AllocError>
+    ensures { IfOk result (ExplainsSeen (kind_of input.now) matches.now input.now form) }
+{
+    match kind_of(input) {
+        InputKind::Job => explain_with_options(alloc, matches, input, form),
+        InputKind::Lines => explain_operations(alloc, matches, Content::Text, input, form),
+        InputKind::Bytes | InputKind::Dump => explain_bytes(alloc, matches, None, input, form),
+    }
+}
+
+/// What `explain` answers to an input as what the option says.
+fn explain_as(
+    alloc: Global,
+    matches: &ArgMatches<'_>,
+    content: Content,
+    input: &[u8],
+    form: Form,
+) -> Result<Answer, AllocError>
+    ensures { IfOk result (ExplainsAs content matches.now input.now form) }
+{
+    match content {
+        Content::Text => explain_operations(alloc, matches, content, input, form),
+        Content::List | Content::Recording => {
+            explain_bytes(alloc, matches, Some(content), input, form)
+        }
+    }
+}
+
+/// The refusal of an option that names nothing that an input can be.
+fn refused_as(alloc: Global) -> Result<Answer, AllocError>
+    ensures { IfOk result (IsRefusal Outside) }
+{
+    Answer::fault_with(
+        alloc,
+        PlanFault::Settings,
+        "--as takes text, list or recording",
+    )
+}
+
+/// What `explain` answers to an input as what the option `--as` says, or as what it is.
+fn explain_said(
+    alloc: Global,
+    matches: &ArgMatches<'_>,
+    input: &[u8],
+    form: Form,
+) -> Result<Answer, AllocError>
+    ensures { IfOk result (ExplainsSaid (said_in matches.now) matches.now input.now form) }
+{
+    let Some(said) = said_in(matches) else {
+        return refused_as(alloc);
+    };
+    match said {
+        Some(content) => explain_as(alloc, matches, content, input, form),
+        None => explain_seen(alloc, matches, input, form),
+    }
+}
+
+/// What `explain` answers to an input, in the form that the flags ask for.
 pub(crate) fn explain(
     alloc: Global,
     matches: &ArgMatches<'_>,
-    text: &[u8],
+    input: &[u8],
 ) -> Result<Answer, AllocError>
-    ensures { IfOk result (ExplainsInput matches.now text.now) }
+    ensures { IfOk result (ExplainsInput matches.now input.now) }
 {
     let Some(range) = range_of(matches) else {
         return refused_range(alloc);
@@ -106,10 +218,5 @@ pub(crate) fn explain(
     let json = matches.get_flag("json");
     let waits = matches.get_flag("waits");
     let all = matches.get_flag("all");
-    let form = form_of(range, svg, json, waits, all);
-    if is_job(text) {
-        explain_with_options(alloc, matches, text, form)
-    } else {
-        explain_operations(alloc, matches, text, form)
-    }
+    explain_said(alloc, matches, input, form_of(range, svg, json, waits, all))
 }

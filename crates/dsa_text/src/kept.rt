@@ -35,11 +35,13 @@ pub(crate) fn barrier_notes(
     form: Form,
 ) -> Result<Option<String>, AllocError> {
     match (source, form) {
-        (Source::Text(_), Form::Waits) if !marks.is_empty() => Ok(Some(String::from_str(
-            alloc,
-            "warning: a tracker does not see barriers: let each group wait for all before it\n",
-        )?)),
-        (Source::Text(_) | Source::Job, _) => Ok(None),
+        (Source::Text(_) | Source::List, Form::Waits) if !marks.is_empty() => Ok(Some(
+            String::from_str(
+                alloc,
+                "warning: a tracker does not see barriers: let each group wait for all before it\n",
+            )?,
+        )),
+        (Source::Text(_) | Source::List | Source::Job, _) => Ok(None),
     }
 }
 

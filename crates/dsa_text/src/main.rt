@@ -26,6 +26,7 @@ mod judging;
 mod kept;
 pub mod laws;
 mod left;
+mod listed;
 mod members;
 mod messages;
 mod mistakes;
@@ -36,12 +37,14 @@ mod origins;
 mod overlapping;
 mod overwritten;
 mod reading;
+mod recorded;
 mod resuming;
 mod rows;
 mod settings;
 mod shown;
 mod stale;
 mod syntax;
+mod taken;
 mod traced;
 mod unplanned;
 mod words;
@@ -125,7 +128,7 @@ fn run(rt: &HostRuntime) -> Result<ExitCode, AllocError> {
     }
 }
 
-/// Runs one command. The status is 0 for an answer; 1 for a refusal, which is one line on standard error; 2 if reading
+/// Runs one command. The status is 0 for an answer; 1 for a refusal, which is on standard error; 2 if reading
 /// or writing failed, and for invalid arguments, with a message on standard error if they are text.
 fn main(rt: HostRuntime) -> ExitCode {
     match run(&rt) {

@@ -19,6 +19,8 @@ use std::alloc::{AllocError, Global};
 pub(crate) enum Source<'a> {
     /// Lines of a text, with options.
     Text(&'a [u8]),
+    /// The bytes of a list, with options.
+    List,
     /// The list of a job, which has settings of its own.
     Job,
 }
@@ -43,7 +45,7 @@ impl Source<'_> {
     /// How the address of the staging area is given.
     fn staging(self) -> &'static str {
         match self {
-            Source::Text(_) => "--staging",
+            Source::Text(_) | Source::List => "--staging",
             Source::Job => "`staging`",
         }
     }
@@ -51,7 +53,7 @@ impl Source<'_> {
     /// How the greatest transfer is given.
     fn transfer(self) -> &'static str {
         match self {
-            Source::Text(_) => "--greatest-transfer",
+            Source::Text(_) | Source::List => "--greatest-transfer",
             Source::Job => "`greatest_transfer`",
         }
     }

@@ -6,9 +6,9 @@ pub returns-in-Some : goal.returns-in-Some
 returns-in-Some c =
     let given = rw c.in-Some.is at c.in_ok-settings.ensures in
     let keep = c.get_flag-keep_fences.ensures in
-    IfOk-weaker c.explain_text.result _ _ (λ a h.
+    IfOk-weaker c.explain_content.result _ _ (λ a h.
     spells_settings c.settings_words-words.result c.in-Some.settings c.get_flag-keep_fences.result c.settings_words-words.ensures given
-    (record { set = keep.value; clear = keep.other; absent = keep.none }) h) c.explain_text.ensures
+    (record { set = keep.value; clear = keep.other; absent = keep.none }) h) c.explain_content.ensures
 
 pub returns-in-None : goal.returns-in-None
 returns-in-None c =

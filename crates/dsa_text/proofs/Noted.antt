@@ -1,0 +1,74 @@
+-- Notes beside an answer to operations change neither its status nor its text.
+use Rattle.std.proofs.Common.{◌≡◌, ◌∙◌, ℕ, Bool, false, List, [], ap, Result, IfOk, string_bytes, sym, subst}
+use Rattle.dsa_descriptor.specs.Fences.{barriers_of as barriers_in, unfenced_list}
+use Rattle.dsa_plan.specs.Settings.{Limits}
+use Rattle.dsa_lines.specs.declared.fault.TextFault.{TextFault}
+use Rattle.dsa_lines.specs.declared.fault.TextFault.TheVariants.{Grammar, List as Listed, Memory as TextMemory}
+use Rattle.dsa_lines.specs.Barriers.{barriers_of}
+use Rattle.dsa_lines.specs.Texts.{lines_of}
+use Rattle.dsa_calls.specs.declared.fault.PlanFault.{PlanFault}
+use Rattle.dsa_calls.specs.declared.fault.PlanFault.TheVariants.{Memory, Settings as Outside}
+use Rattle.dsa_calls.specs.Fault.{list_cause}
+use Rattle.clap.specs.declared.parser.matches.ArgMatches.{ArgMatches}
+use Rattle.dsa_text.specs.declared.answer.Answer.{Answer}
+use Rattle.dsa_text.specs.declared.form.Form.{Form}
+use Rattle.dsa_text.specs.declared.taken.Content.{Content}
+use Rattle.dsa_text.specs.declared.taken.Content.TheVariants.{Text, List as InList, Recording}
+use Rattle.dsa_text.specs.Comments.{names_of}
+use Rattle.dsa_text.specs.Explained.{ExplainsList, ExplainsText, is_assembled, is_planned, is_refused_list, is_refused_text}
+use Rattle.dsa_text.specs.Inputs.{ExplainsContent, ExplainsOperations, spells_none, spells_settings}
+use Rattle.dsa_text.specs.Recorded.{ExplainsRecording, is_audited, is_refused_audit}
+use Rattle.dsa_text.specs.Refusals.{IsRefusal, NamesGrammar, RefusesText}
+use Rattle.dsa_text.proofs.Answered.{both, plan_beside, refused_beside}
+
+text_refused : (fault : TextFault) (a b : Answer) → b.status ≡ a.status → b.text ≡ a.text → RefusesText fault a → RefusesText fault b
+text_refused (Grammar line column what) a b status text r =
+    (status ∙ r.0, subst (λ (t : List ℕ). NamesGrammar t) (sym (ap string_bytes text)) r.1)
+text_refused (Listed line fault) a b status text r = refused_beside (list_cause fault) a b status text r
+text_refused TextMemory a b status text r = refused_beside Memory a b status text r
+
+list_beside : (list : List ℕ) (bs : List Bool) (names : List (List ℕ)) (s : Limits) (form : Form) (a b : Answer)
+    → b.status ≡ a.status → b.text ≡ a.text → ExplainsList list bs names s form a → ExplainsList list bs names s form b
+list_beside list bs names s form a b status text (is_refused_list fault cause r) =
+    is_refused_list fault cause (refused_beside fault a b status text r)
+list_beside list bs names s form a b status text (is_planned ds p listed says answers) =
+    is_planned ds p listed says (plan_beside s p.plan p.pieces _ _ _ form a b status text answers)
+
+text_beside : (lines : List ℕ) (keep : Bool) (s : Limits) (form : Form) (a b : Answer)
+    → b.status ≡ a.status → b.text ≡ a.text → ExplainsText lines keep s form a → ExplainsText lines keep s form b
+text_beside lines keep s form a b status text (is_refused_text fault assembles r) =
+    is_refused_text fault assembles (text_refused fault a b status text r)
+text_beside lines keep s form a b status text (is_assembled list listing explains) =
+    is_assembled list listing (list_beside list (barriers_of keep (lines_of lines)) (names_of (lines_of lines)) s form a b status text explains)
+
+recording_beside : (bytes : List ℕ) (s : Limits) (form : Form) (a b : Answer)
+    → b.status ≡ a.status → b.text ≡ a.text → ExplainsRecording bytes s form a → ExplainsRecording bytes s form b
+recording_beside bytes s form a b status text (is_refused_audit listed lists refused one same) =
+    is_refused_audit listed lists refused (status ∙ one) (text ∙ same)
+recording_beside bytes s form a b status text (is_audited listed lists answered explains) =
+    is_audited listed lists answered (text_beside (string_bytes listed.text) false s form a b status text explains)
+
+content_beside : (content : Content) (input : List ℕ) (keep : Bool) (s : Limits) (form : Form) (a b : Answer)
+    → b.status ≡ a.status → b.text ≡ a.text → ExplainsContent content input keep s form a → ExplainsContent content input keep s form b
+content_beside Text input keep s form a b status text h = text_beside input keep s form a b status text h
+content_beside InList input keep s form a b status text h =
+    list_beside (unfenced_list input) (barriers_in input) [] s form a b status text h
+content_beside Recording input keep s form a b status text h = recording_beside input s form a b status text h
+
+operations_beside : (content : Content) (m : ArgMatches) (input : List ℕ) (form : Form) (a b : Answer)
+    → b.status ≡ a.status → b.text ≡ a.text → ExplainsOperations content m input form a → ExplainsOperations content m input form b
+operations_beside content m input form a b status text (spells_none w words none r) =
+    spells_none w words none (refused_beside Outside a b status text r)
+operations_beside content m input form a b status text (spells_settings w s keep words settings flag explains) =
+    spells_settings w s keep words settings flag (content_beside content input keep s form a b status text explains)
+
+pub refusal_noted : {E : Type 0} (r : Result Answer E) (fault : PlanFault) (a : Answer)
+    → IfOk r (λ b. b.text ≡ a.text) → IfOk r (λ b. b.status ≡ a.status) → IsRefusal fault a → IfOk r (IsRefusal fault)
+refusal_noted r fault a texts statuses h =
+    both r _ _ _ (λ b text status. refused_beside fault a b status text h) texts statuses
+
+pub operations_noted : {E : Type 0} (r : Result Answer E) (content : Content) (m : ArgMatches) (input : List ℕ) (form : Form) (a : Answer)
+    → IfOk r (λ b. b.text ≡ a.text) → IfOk r (λ b. b.status ≡ a.status) → ExplainsOperations content m input form a
+    → IfOk r (ExplainsOperations content m input form)
+operations_noted r content m input form a texts statuses h =
+    both r _ _ _ (λ b text status. operations_beside content m input form a b status text h) texts statuses

@@ -1,9 +1,8 @@
 -- Texts in the order of their bytes: those that begin with a front come one after another, and of these the ones with one number.
-use Rattle.std.proofs.Common.{◌≡◌, ◌≢◌, ◌⊎◌, ℕ, zero, suc, ◌+◌, ◌<◌, ◌≤◌, ◌^◌, inl, inr, Bool, true, false, List, [], ◌∷◌, ◌++◌, Option, Some, None, length, get_or, slice_get, drop, subst, sym, ap, refl, ◌∙◌, arith, true≢false}
+use Rattle.std.proofs.Common.{◌≡◌, ◌≢◌, ◌⊎◌, ℕ, suc, ◌+◌, ◌<◌, ◌≤◌, ◌^◌, inl, inr, Bool, true, false, List, [], ◌∷◌, ◌++◌, Option, Some, None, length, get_or, slice_get, drop, subst, sym, ap, refl, ◌∙◌, arith, true≢false}
 use Rattle.std.specs.Prelude.{◌||◌, MatchOption, Result, Ok, Err, IfOk, String, codes, decimal, string_bytes, if◌then◌else◌}
 use Rattle.std.specs.Global.{Global}
 use Rattle.std.specs.BTreeMap.{is_at}
-use Rattle.std.specs.BTreeMap.Range.{IsLeBy}
 use Rattle.std.specs.BTreeSet.{IsKeyRangeOf}
 use Rattle.std.specs.Cmp.Lexicographic.{nat_list_cmp_total, slice_cmp}
 use Rattle.std.specs.List.{Contains, list_any}
@@ -18,12 +17,11 @@ use Rattle.std.proofs.lemmas.Cmp.{alike_right, nat_cmp_total, ranked, tied_itsel
 use Rattle.std.proofs.lemmas.Fmt.{decimal_is_IsNumeral}
 use Rattle.std.proofs.lemmas.Map.Text.{is_eq-slice_cmp}
 use Rattle.std.proofs.lemmas.Slice.Eq.{bytes_eq-Decides}
-use Rattle.std.proofs.lemmas.Str.Pattern.{IsSplitOnceResult, split_parts}
 use denote.Ref.{Bor}
 use Rattle.dsa_recording.specs.declared.accepted.Accepted.{Accepted}
 use Rattle.dsa_audit.specs.declared.hazard.Hazards.{Hazards}
 use Rattle.dsa_recording.specs.EntryKeys.{entry_key, fence_front, fence_key}
-use Rattle.dsa_recording.specs.Pairs.{HasNumber, IsAbove, IsFirstAfter, IsUpTo, LeadsOn, NamesAfter, NamesEach, NoneAfter, Pushes, has_key, hazards_by}
+use Rattle.dsa_recording.specs.Pairs.{IsAbove, IsFirstAfter, IsUpTo, LeadsOn, NamesAfter, NamesEach, NoneAfter, Pushes, has_key, hazards_by}
 use Rattle.dsa_recording.proofs.NamedPairs.{by_number, digits_lack, few_numbers, front_key, number_of}
 
 -- ---- the order of texts

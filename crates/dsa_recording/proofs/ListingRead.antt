@@ -25,7 +25,7 @@ use Rattle.dsa_lines.proofs.TextLemmas.{all_listed}
 use Rattle.dsa_ranges.specs.declared.span.Touched.{Touched}
 use Rattle.dsa_recording.specs.declared.stream.Submission.{Submission}
 use Rattle.dsa_recording.specs.declared.submission.Audited.{Audited}
-use Rattle.dsa_recording.specs.Listings.{stand_in, barrier_for, fence_line, is_apart_from_added, left_out, operation_line, plain_words, known_line, member_line, member_lines, submission_lines, left_words, left_line, left_count, listing_text, op_in_list, expects_bit, known_operation, member_operation, member_operations, listed_operations}
+use Rattle.dsa_recording.specs.Listings.{stand_in, barrier_for, fence_line, is_apart_from_added, left_out, operation_line, plain_words, known_line, member_line, member_lines, submission_lines, left_words, left_count, listing_text, op_in_list, expects_bit, known_operation, member_operation, member_operations, listed_operations}
 use Rattle.dsa_recording.specs.Furthers.{code_name}
 use Rattle.dsa_recording.specs.EntryWords.{in_brackets, operation_words}
 use Rattle.dsa_recording.specs.Totals.{member_count}

@@ -1,7 +1,7 @@
 -- Which accepted keys take pairs of a submission out of those that need a fence.
-use Rattle.std.proofs.Common.{◌≡◌, ℕ, ◌+◌, ◌<◌, ◌≤◌, ◌^◌, ◌⊎◌, inl, inr, true, false, List, Option, Some, None, length, get_or, sym, ap, subst, refl, ◌∙◌, arith}
+use Rattle.std.proofs.Common.{◌≡◌, ℕ, ◌+◌, ◌<◌, ◌≤◌, ◌⊎◌, inl, inr, true, false, List, Option, Some, None, length, get_or, sym, ap, subst, refl, ◌∙◌, arith}
 use Rattle.std.specs.List.{Contains}
-use Rattle.std.proofs.lemmas.Bool.{cases_eq, cases_lt}
+use Rattle.std.proofs.lemmas.Bool.{cases_eq}
 use Rattle.std.proofs.lemmas.List.{get_or_default}
 use Rattle.dsa_settings.specs.Plan.{Group}
 use Rattle.dsa_conflicts.specs.Access.{IsGreatest}
@@ -12,7 +12,7 @@ use Rattle.dsa_recording.specs.declared.accepted.Accepted.{Accepted}
 use Rattle.dsa_recording.specs.declared.submission.Audited.{Audited}
 use Rattle.dsa_recording.specs.EntryKeys.{fence_key}
 use Rattle.dsa_recording.specs.Pairs.{NamesEach, has_key}
-use Rattle.dsa_recording.specs.Uses.{AddsKeys, IsEpochBefore, IsEpochOf, NeedFence, TakesAcceptedOut, TakesBelowOut, TakesFirstOut, TakesLaterOut, TakesOut, TakesPairOut}
+use Rattle.dsa_recording.specs.Uses.{AddsKeys, IsEpochBefore, IsEpochOf, NeedFence, TakesAcceptedOut, TakesBelowOut, TakesFirstOut, TakesLaterOut, TakesPairOut}
 use Rattle.dsa_recording.proofs.Using.{adds_both, adds_none, adds_same, takes_needed, takes_own}
 
 -- ---- epochs

@@ -1,5 +1,5 @@
 -- Which keys are used.
-use Rattle.std.proofs.Common.{◌≡◌, ◌↔◌, ◌⊎◌, ℕ, zero, suc, ◌+◌, ◌<◌, ◌≤◌, get_or, drop, inl, inr, Bool, true, false, cond, List, [], ◌∷◌, length, Option, Some, None, subst, sym, ap, refl, ◌∙◌, arith}
+use Rattle.std.proofs.Common.{◌≡◌, ◌↔◌, ◌⊎◌, ℕ, zero, suc, ◌+◌, ◌<◌, ◌≤◌, get_or, drop, inl, inr, Bool, true, false, cond, List, [], ◌∷◌, length, subst, sym, ap, refl, ◌∙◌, arith}
 use Rattle.std.specs.Prelude.{◌||◌, Result, Ok, Err, OnOk, String, string_bytes}
 use Rattle.std.specs.Global.{Global}
 use Rattle.std.specs.Str.{bytes_eq}
@@ -10,7 +10,7 @@ use Rattle.std.specs.String.{string_cmp}
 use Rattle.dsa_settings.specs.Plan.{Group}
 use Rattle.dsa_audit.specs.declared.missing.FencePlace.{FencePlace}
 use Rattle.dsa_audit.specs.declared.missing.FencePlace.TheVariants as fence_place
-use Rattle.dsa_audit.specs.Audits.{HasFence, IsCorrected, IsSeparated, PlaceHolds, ShareEpoch}
+use Rattle.dsa_audit.specs.Audits.{HasFence, IsCorrected, IsSeparated, PlaceHolds}
 use Rattle.dsa_audit.specs.Members.{AreHazardsBetween}
 use Rattle.dsa_audit.specs.Repeats.{OrderMatters}
 use Rattle.std.proofs.lemmas.Slice.Eq.{bytes_eq-Decides}

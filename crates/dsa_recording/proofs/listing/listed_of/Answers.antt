@@ -1,4 +1,4 @@
-use Rattle.std.proofs.Common.{◌≡◌, ℕ, suc, ◌+◌, ◌<◌, ◌≤◌, List, [], length, get_or, take, refl, sym, ap, ◌∙◌, add-one, arith}
+use Rattle.std.proofs.Common.{◌≡◌, ℕ, ◌+◌, ◌<◌, ◌≤◌, List, [], length, get_or, take, refl, ap, ◌∙◌, add-one, arith}
 use Rattle.std.specs.Prelude.{slice_index_or}
 use Rattle.dsa_audit.specs.declared.member.Member.{Member}
 use Rattle.dsa_recording.specs.Listings.{member_operation, member_operations}

@@ -1,4 +1,4 @@
-use Rattle.std.proofs.Common.{◌≡◌, ℕ, ◌-◌, ◌++◌, ap, ◌∙◌}
+use Rattle.std.proofs.Common.{◌-◌, ◌++◌, ap, ◌∙◌}
 use Rattle.std.specs.List.{sum_by}
 use Rattle.dsa_recording.specs.Listings.{left_line, submission_lines}
 use Rattle.dsa_recording.specs.Totals.{member_count}

@@ -1,4 +1,4 @@
-use Rattle.std.proofs.Common.{◌≡◌, ◌++◌, ◌∷◌, [], Some, None, sym, subst, arith}
+use Rattle.std.proofs.Common.{◌++◌, ◌∷◌, [], Some, None, sym, subst, arith}
 use Rattle.std.proofs.lemmas.Str.Pattern.{split_parts}
 use Rattle.dsa_recording.specs.Pairs.{IsAbove, LeadsOn}
 use Rattle.dsa_recording.proofs.Fronts.{above_digits, above_nul, if_text, leads_digits, leads_plain}

@@ -1,5 +1,4 @@
 use Rattle.std.proofs.Common.{◌<◌, string_bytes, sym, subst}
-use Rattle.dsa_recording.specs.Pairs.{IsUpTo}
 use Rattle.dsa_recording.proofs.Fronts.{IsKeyAfter, IsNextText, LeftFrom, keys_fewer, keys_left, reached_next}
 use Rattle.dsa_recording.proofs.pairs.push_numbers.Goals as goal
 

@@ -1,4 +1,4 @@
-use Rattle.std.proofs.Common.{◌≡◌, true, false, string_bytes, refl, subst, sym, ap, ◌∙◌}
+use Rattle.std.proofs.Common.{◌≡◌, true, false, subst, sym, ap, ◌∙◌}
 use Rattle.dsa_audit.specs.Members.{AreHazardsBetween}
 use Rattle.dsa_recording.specs.EntryKeys.{fence_key}
 use Rattle.dsa_recording.specs.Pairs.{has_key}

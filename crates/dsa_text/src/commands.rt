@@ -210,40 +210,54 @@ fn taken_as<'a>(alloc: Global) -> Arg<'a> {
         .help("what the input is: text, list or recording")
 }
 
-/// The command `explain`.
-fn explain_command<'a>(alloc: Global) -> Result<Command<'a>, AllocError> {
-    let options = settings_options(alloc)?;
-    let all = flag(
+/// The flag of all conflicts and pieces.
+fn all_flag<'a>(alloc: Global) -> Result<Arg<'a>, AllocError> {
+    flag(
         alloc,
         "all",
         "name every conflict that a fence separates, and each piece by itself",
-    );
-    let json = flag(alloc, "json", "write the explanation as JSON");
-    let waits = flag(
+    )
+    .conflicts_with("svg")?
+    .conflicts_with("json")
+}
+
+/// The flag of what groups wait for.
+fn waits_flag<'a>(alloc: Global) -> Result<Arg<'a>, AllocError> {
+    flag(
         alloc,
         "waits",
         "tell which earlier groups each group waits for",
-    );
-    let from = piece(alloc, "from", "the first piece that --svg draws")?;
-    let to = piece(alloc, "to", "the last one")?;
+    )
+    .conflicts_with("svg")?
+    .conflicts_with("json")?
+    .conflicts_with("all")
+}
+
+/// The options of how a plan is shown.
+fn form_options<'a>(alloc: Global) -> Result<Vec<Arg<'a>>, AllocError> {
+    let mut options = Vec::new(alloc);
+    options.push(flag(alloc, "svg", "draw the plan"))?;
+    let json = flag(alloc, "json", "write the explanation as JSON");
+    options.push(json.conflicts_with("svg")?)?;
+    options.push(all_flag(alloc)?)?;
+    options.push(waits_flag(alloc)?)?;
+    options.push(piece(alloc, "from", "the first piece that --svg draws")?)?;
+    options.push(piece(alloc, "to", "the last one")?)?;
+    Ok(options)
+}
+
+/// The command `explain`.
+fn explain_command<'a>(alloc: Global) -> Result<Command<'a>, AllocError> {
+    let form = form_options(alloc)?;
+    let settings = settings_options(alloc)?;
     Command::new(alloc, "explain")
         .about("Reads lines, a list, a recording or a job, and tells what the plan does and why")
         .after_help(EXPLAINED)
         .arg(file(alloc))?
-        .arg(flag(alloc, "svg", "draw the plan"))?
-        .arg(json.conflicts_with("svg")?)?
-        .arg(all.conflicts_with("svg")?.conflicts_with("json")?)?
-        .arg(
-            waits
-                .conflicts_with("svg")?
-                .conflicts_with("json")?
-                .conflicts_with("all")?,
-        )?
-        .arg(from)?
-        .arg(to)?
+        .args(form)?
         .arg(taken_as(alloc))?
         .arg(keep_fences(alloc))?
-        .args(options)
+        .args(settings)
 }
 
 /// The commands.

@@ -97,7 +97,10 @@ fn wrong_setting(name: &str, value: &Shape) -> Option<&'static str> {
 /// Which member of settings is of another kind.
 fn setting_kind_fault(alloc: Global, settings: &Members) -> Found {
     for name in SETTINGS_MEMBERS {
-        if let Some(kind) = settings.get(name).and_then(|value| wrong_setting(name, value)) {
+        if let Some(kind) = settings
+            .get(name)
+            .and_then(|value| wrong_setting(name, value))
+        {
             return Ok(Some(format!(in alloc; "`settings`: `{name}` is not {kind}")?));
         }
     }

@@ -523,8 +523,8 @@ struct dsa_resumed {
  * portal was submitted after one that failed, doing it leaves what executing the list in order leaves, without the
  * pieces that are given up or left out, provided that what is left writes each byte that a failed piece or the clearing
  * of a record has changed before it reads it, and that no other piece reads or writes a byte that a given-up piece has
- * changed: those bytes, its record among them, stay as they are. So a move over its own source that has failed needs that
- * source restored.
+ * changed: those bytes, its record among them, stay as they are. So a move over its own source that has failed needs
+ * that source restored.
  *
  * Returns another number: refusal has it, and nothing else was written: the first refusal of dsa_plan_list but for
  * DSA_NO_ROOM, then DSA_RECORDS, then DSA_SHARED_RECORD, DSA_NOT_FAILED, DSA_PASSED_BARRIER, then

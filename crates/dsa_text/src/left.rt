@@ -145,8 +145,8 @@ fn early_note(
 }
 
 /// The notes and warnings about a list and records: how long the records should be; else which operations meet the
-/// records of others; else that a piece may have overwritten its own source, and that submitting the groups of its plan in
-/// turn does not leave such records. A record that pieces share does not say which of them has begun.
+/// records of others; else that a piece may have overwritten its own source, and that submitting the groups of its plan
+/// in turn does not leave such records. A record that pieces share does not say which of them has begun.
 pub(crate) fn resume_notes(
     alloc: Global,
     text: &[u8],

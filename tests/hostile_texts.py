@@ -6,7 +6,8 @@ import subprocess
 
 MIB = 2**20
 LENGTH = 32 * MIB
-# The program, its libraries and its stack.
+# The program, its libraries and its stack, and what buffers that double have in reserve: address space, of which most is
+# never touched.
 ROOM = 40 * MIB
 SETTINGS = '"settings":{"batch":14,"fence":3,"greatest_batch":4,"greatest_transfer":4096,"lone":10,"staging":65536'
 SETTINGS += ',"version":1}'

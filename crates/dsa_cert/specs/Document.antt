@@ -66,7 +66,7 @@ most_pairs = most_pieces + 1
 abbrev pub most_prices : ℕ
 most_prices = most_pieces + 2
 
--- the first prices and pairs; a certificate with more is refused for their number, and what is kept of it too
+-- the first prices and pairs; a certificate with more is refused, at the latest for their number, and what is kept of it too
 abbrev pub kept_contents : Contents → Contents
 kept_contents c = record { version = c.version; prices = take most_prices c.prices; pairs = take most_pairs c.pairs }
 

@@ -15,7 +15,7 @@ use dsa_tokens::{
 use json::{Reader, Token};
 use std::alloc::Global;
 
-/// The most pairs that are kept. A certificate with more is refused for their number, however many they are.
+/// The most pairs that are kept. A certificate with more is refused, at the latest for their number.
 const MOST_PAIRS: usize = MOST_PIECES + 1;
 
 /// The most prices that are kept, in the same way.

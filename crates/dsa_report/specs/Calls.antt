@@ -116,8 +116,8 @@ call_of (RunEngines job) = (
   },
 )
 
--- What is kept of a call: of a plan the first groups, and of a certificate the first prices and pairs. What is left out
--- changes no answer, as the law `kept_is_answered_alike` says.
+-- What is kept of a call: of a plan the first groups, and all later ones as one; and of a certificate the first prices and
+-- pairs. What is left out changes no answer, as the law `kept_is_answered_alike` says.
 abbrev pub kept_call : Call → Call
 kept_call (Judge, a) = (Judge, record a { plan = kept_plan a.plan })
 kept_call (Plan, a) = (Plan, a)

@@ -21,8 +21,8 @@ ExplainsJob (Check job) form a =
 ExplainsJob (Replay job) form a = IsRefusal Do a
 ExplainsJob (Run job) form a = IsRefusal Do a
 
--- refused if the text spells no job, for the cause; else the answer for what is kept of the job that it spells: if that is
--- not all of a plan or a certificate, a refusal as of the whole (dsa_report, law `kept_is_answered_alike`)
+-- refused if the text spells no job, for the cause; else the answer for what is kept of the job that it spells, which is
+-- answered as the whole is (dsa_report, law `kept_is_answered_alike`)
 pub data ExplainsJobText (text : List ℕ) (form : Form) (a : Answer) : Type 0 where
   is_no_job : (fault : PlanFault) → ReadsJobText text (Err fault) → IsRefusal fault a → ExplainsJobText text form a
   is_read : (job : Job) → ReadsJobText text (Ok job) → ExplainsJob job form a → ExplainsJobText text form a

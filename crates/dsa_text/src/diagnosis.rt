@@ -7,6 +7,7 @@ use crate::answer::Answer;
 use crate::members::{Members, SETTINGS_MEMBERS, Shape, job_members, settings_members};
 use crate::settings::{SETTINGS, limits_of, member_of};
 use crate::syntax::syntax_fault;
+use crate::words::push_shown;
 use dsa_calls::PlanFault;
 use std::alloc::{AllocError, Global};
 
@@ -26,11 +27,11 @@ const BYTES: [&str; 3] = ["list", "portal", "staging"];
 /// A better reason for a refusal than its cause; none if nothing was found, or that an allocation failed.
 type Found = Result<Option<String>, AllocError>;
 
-/// That an object has a member of no known name, which may be as long as the text.
+/// That an object has a member of no known name, which may be as long as the text, and may have signs that a terminal
+/// obeys.
 fn no_member(alloc: Global, whole: &str, name: &str) -> Result<String, AllocError> {
     let mut words = format!(in alloc; "{whole} has no member `")?;
-    words.reserve(name.len().saturating_add(1))?;
-    words.push_str(name)?;
+    push_shown(alloc, &mut words, name.as_bytes())?;
     words.push_str("`")?;
     Ok(words)
 }

@@ -97,7 +97,7 @@ fn number_fault(alloc: Global, text: &[u8]) -> Result<Option<SyntaxFault>, Alloc
     Ok(None)
 }
 
-/// The first place where a text is no JSON.
+/// The first place where a text is no JSON; of a text that is no UTF-8 where that is so.
 pub(crate) fn syntax_fault(alloc: Global, text: &[u8]) -> Result<Option<SyntaxFault>, AllocError> {
     let Some(number) = number_fault(alloc, text)? else {
         return grammar_fault(alloc, text);

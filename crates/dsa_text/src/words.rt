@@ -95,17 +95,26 @@ fn is_shown(word: &[u8], shown: &str) -> bool {
     word.len() <= MOST_SHOWN && !word.starts_with(&MARK) && !shown.chars().any(char::is_control)
 }
 
-/// Writes what was found at a place, in quotes: a text as it is, up to 40 bytes, other bytes by their numbers.
+/// Writes a word: a text as it is, up to 40 bytes, other bytes by their numbers; after what is cut two points.
+pub(crate) fn push_shown(alloc: Global, text: &mut String, word: &[u8]) -> Result<(), AllocError> {
+    match str::from_utf8(word) {
+        Ok(shown) if is_shown(word, shown) => text.push_str(shown)?,
+        Ok(_) | Err(_) => push_bytes(alloc, text, word)?,
+    }
+    if word.len() > MOST_SHOWN {
+        text.push_str("..")?;
+    }
+    Ok(())
+}
+
+/// Writes what was found at a place, in quotes.
 pub(crate) fn push_found(alloc: Global, text: &mut String, word: &[u8]) -> Result<(), AllocError> {
     if word.is_empty() {
         return text.push_str("the end of the line");
     }
     text.push_str("'")?;
-    match str::from_utf8(word) {
-        Ok(shown) if is_shown(word, shown) => text.push_str(shown)?,
-        Ok(_) | Err(_) => push_bytes(alloc, text, word)?,
-    }
-    text.push_str(if word.len() > MOST_SHOWN { "..'" } else { "'" })
+    push_shown(alloc, text, word)?;
+    text.push_str("'")
 }
 
 /// Writes the first bytes of a word: those of a character in ASCII as it, others by their numbers.

@@ -189,11 +189,19 @@ def lists():
     with tempfile.TemporaryDirectory(dir=WORK) as folder:
         traced("--out", folder, *unseen("list"))
         [errors] = Path(folder, "seed-1").glob("*.errors")
-        expect(re.fullmatch(r"L 0 [0-3] \d+\n", errors.read_text()), f"the error of a list is {errors.read_text()!r}")
+        noted = sorted(errors.read_text().splitlines())
+        of_each = all(re.fullmatch(rf"L 0 {member} \d+", line) for member, line in enumerate(noted))
+        expect(of_each and len(noted) == 4, f"of the four members of a list is noted {noted}")
         [recording] = Path(folder, "seed-1").glob("*.dsa")
         members = [recording.read_bytes()[64 * at : 64 * at + 64] for at in range(10)]
         expect(members[1:5] != members[6:10], "the recording does not have what was submitted")
     none("a list that is filled anew after its members", audited(*unseen("reuse")))
+    keys = [f"descriptor list changed; batch of 4; member {member}: move, 64 bytes" for member in range(4)]
+    for left in (0, 3):
+        Path(WORK, "known.txt").write_text("".join(f"{key}\n" for key in keys if key != keys[left]))
+        end = audited("--stacks", 0, "--accept", f"{WORK}/known.txt", *unseen("list"))
+        told(f"all but member {left} accepted", end, 1, f"member {left}): error: descriptor list changed")
+        expect(end.stdout.count("error: ") == 1, f"of three accepted members is said {end.stdout}")
 
 
 def records():

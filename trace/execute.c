@@ -34,9 +34,7 @@ bool execute_fetch(struct submission *s, unsigned index, completion *r)
     const bool is_read = memory_copy(&now, (const descriptor *)s->entry.desc_list_addr + index, sizeof now, &fault);
     if (is_read && memcmp(&now, member, sizeof now) == 0)
         return true;
-    if (!s->is_changed)
-        record_error(is_read ? 'L' : 'U', s->number, index, s->entry.desc_list_addr + sizeof now * index);
-    s->is_changed = true;
+    record_error(is_read ? 'L' : 'U', s->number, index, s->entry.desc_list_addr + sizeof now * index);
     if (is_read) {
         records_leave(member);
         *member = now;

@@ -60,7 +60,7 @@ static void take_in(struct queue *q, const descriptor *d, const struct submitter
     s->queue = q;
     s->entry = *d;
     s->is_batch = d->opcode == DSA_OPCODE_BATCH;
-    s->has_failed = s->is_done = s->is_changed = false;
+    s->has_failed = s->is_done = false;
     s->is_at_once = order_is_at_once(s);
     s->watch = -1;
     s->origin = stacks_origin(by);

@@ -16,7 +16,6 @@ struct submission {
     descriptor entry;
     uint32_t count, begun, end;
     bool is_batch, has_failed, is_done;
-    bool is_changed; /* that its list was changed is said */
     bool is_at_once; /* the thread that submits does it */
     int watch; /* a watchpoint, or -1 */
     struct origin origin;

@@ -84,7 +84,7 @@ def noted():
     """What the library notes is shown in the form of dsa_text, of errors with one key the first."""
     end = audited("--order", "fifo", "--", client("unseen"), "stale")
     told("records that are never cleared", end, 1,
-         "entry 1 (submission 1): error: record not zero: its completion record, at 0x", "\n  and 48 more like it\n")
+         "entry 1 (submission 1): error: record not zero: its completion record, at 0x", "\n  and 14 more like it\n")
     end = audited("--order", "fifo", *accepting(STALE), "--", client("unseen"), "stale")
     told("the same, accepted", end, 0, "entry 1 (submission 1): accepted: record not zero")
 
@@ -158,7 +158,7 @@ def in_json():
     notes, address = stale["noted"], stale["noted"][0].pop("address")
     wanted = {"entry": 1, "finding": "record not zero", "key": STALE, "member": None, "severity": "error"}
     wanted |= {"submission": 1}
-    expect(notes[0] == wanted and re.fullmatch("0x[0-9a-f]+", address) and len(notes) == 49, f"noted is {notes[:2]}")
+    expect(notes[0] == wanted and re.fullmatch("0x[0-9a-f]+", address) and len(notes) == 15, f"noted is {notes[:2]}")
     end = audited("--json", "--", "true")
     told("JSON of nothing", end, 1)
     wanted = {"runs": [{"processes": [], "seed": 1, "status": 0, "verdict": "empty"}]}

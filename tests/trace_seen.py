@@ -71,8 +71,8 @@ def full_folder():
 
 
 def counted():
-    """All that is submitted is recorded, or the audit says so: where recordings are removed, and where a process can't
-    tell the launcher. A thread that submits while its process ends is recorded."""
+    """All that is submitted is recorded, or the audit says so: where recordings are removed, where a process can't tell
+    the launcher, and where a full queue drops some. A thread that submits while its process ends is recorded."""
     end = audited("--", "sh", "-c", f'{client("unseen")} right; rm "$DSA_TRACE_OUT"/*')
     told("recordings that the program removes", end, 125, "of 2 submissions 0 are recorded", PART)
     end = audited("--", "env", "DSA_TRACE_BOARD=/nowhere", client("unseen"), "right")
@@ -83,6 +83,14 @@ def counted():
     told("a queue that can't be read", audited("--", "sh", "-c", shell), 4,
          "the files of wq0.0 can't be read (Too many open files)", "/dev/dsa/wq0.0: Too many open files")
     told("a process that is killed", audited("--", client("odd"), "killed", 500), 128 + signal.SIGKILL)
+    full = ("--queue", "dedicated,16,q", "--delay", 20000)  # nothing is done before all are submitted
+    said = ("0 missing waits, 16 submissions", ": 24 more submissions, dropped by a full queue, are not audited", PART)
+    with tempfile.TemporaryDirectory(dir=WORK) as folder:
+        told("a full queue", audited(*full, "--out", folder, *unseen("dropped")), 125, *said)
+        told("a full queue, kept", traced("--report", folder, env=KNOWN), 125, *said)
+        [errors] = Path(folder, "seed-1").glob("*.errors")
+        expect(errors.read_text() == 24 * "D 16 wq0.0\n", f"what is dropped is noted as {errors.read_text()!r}")
+    told("a full queue without an audit", traced(*full, *unseen("dropped")), 0, "(16 in flight): MOVDIR64B is lost")
     with tempfile.TemporaryDirectory(dir=WORK) as folder:
         end = audited("--out", folder, *unseen("late"))
         told("a thread that submits while the process ends", end, 0)

@@ -167,9 +167,12 @@ static int audit_process(struct audited *a, const char *base)
     if (g.why)
         fprintf(stderr, "dsa_trace: %s is audited up to its submission %" PRIu64 ", since %s\n", base, g.submissions,
                 g.why);
+    if (g.dropped)
+        fprintf(stderr, "dsa_trace: %s: %" PRIu64 " more submission%s, dropped by a full queue, %s not audited\n", base,
+                g.dropped, g.dropped > 1 ? "s" : "", g.dropped > 1 ? "are" : "is");
     if (found > 1)
         fprintf(stderr, "dsa_trace: %s does not audit %s\n", all->dsa_text, base);
-    return found > 1 || !is_noted || g.why ? FAILED : found == 1 || has_own;
+    return found > 1 || !is_noted || g.why || g.dropped ? FAILED : found == 1 || has_own;
 }
 
 static int ends_in_events(const struct dirent *e)

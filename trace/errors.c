@@ -63,13 +63,21 @@ static bool add(const char *line, const struct gathered *g, struct findings *to)
     return true;
 }
 
-/// A line: that each submission was done at once, that the recording breaks off, or an error.
+/// Whether a line names a submission that was dropped.
+static bool is_dropped(const char *line)
+{
+    unsigned device, id;
+    uint64_t number;
+    return sscanf(line, "D %" SCNu64 " wq%u.%u", &number, &device, &id) == 3;
+}
+
+/// A line: that each submission was done at once, that one was dropped, that the recording breaks off, or an error.
 static bool take(const char *line, struct gathered *g, struct findings *to)
 {
-    if (strcmp(line, "A\n") == 0) {
-        g->is_at_once = true;
-        return true;
-    }
+    if (strcmp(line, "A\n") == 0)
+        return g->is_at_once = true;
+    if (is_dropped(line))
+        return ++g->dropped;
     if (strncmp(line, "B ", 2))
         return add(line, g, to);
     snprintf(g->marked, sizeof g->marked, "%.*s", (int)strcspn(line + 2, "\n"), line + 2);

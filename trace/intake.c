@@ -106,9 +106,12 @@ static bool has_room(struct queue *q, bool is_enqueued)
         order.retried++;
         return false;
     }
-    if (q->in_flight >= q->size && !order.dropped++)
+    if (q->in_flight < q->size)
+        return true;
+    record_dropped(order.submitted, q);
+    if (!order.dropped++)
         say("wq%d.%d is full (%u in flight): MOVDIR64B is lost", q->device, q->id, q->size);
-    return q->in_flight < q->size;
+    return false;
 }
 
 /// Says once of a queue that a device would not take what is submitted so; here it is taken.

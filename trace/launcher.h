@@ -163,12 +163,12 @@ void findings_use(const struct findings *all, struct stale *s);
 bool findings_errors(const struct findings *all, const struct keys *accepted, struct keys *to);
 
 /* ---- gather.c and errors.c: what is audited of a process ---- */
-/* What dsa_text reads, and at which entry each submission begins. `why` is NULL, or says why these are not all
- * submissions of the process. */
+/* What dsa_text reads, and at which entry each submission begins. `why` is NULL, or says why these are not all that the
+ * queues of the process have taken; `dropped` counts those that they have not. */
 struct gathered {
     FILE *recording, *events;
     char marked[224];
-    uint64_t submissions;
+    uint64_t submissions, dropped;
     uint32_t *first;
     const char *why;
     bool is_at_once;

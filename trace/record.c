@@ -266,6 +266,17 @@ void record_error(char letter, uint64_t number, int64_t member, uint64_t address
     add_error(line, to - line);
 }
 
+/// A submission that no audit sees, since the full queue has dropped it.
+void record_dropped(uint64_t number, const struct queue *q)
+{
+    char line[LONGEST_LINE], *to = line;
+    if (!record_is_on())
+        return;
+    to = put_pair(put_pair(put_pair(to, "D ", number), " wq", q->device), ".", q->id);
+    *to++ = '\n';
+    add_error(line, to - line);
+}
+
 /// A line of NAME.PID.stacks. There are few, so each is written at once.
 bool record_origin(const char *line, size_t length)
 {

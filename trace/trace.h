@@ -132,6 +132,8 @@ void record_submission(const struct submitted *s);
 void record_event(char letter, uint64_t number, int64_t member, int64_t status);
 /* Errors are lines of a file of their own: a letter, the submission, a member or -1, an address. */
 void record_error(char letter, uint64_t number, int64_t member, uint64_t address);
+/* A submission that the full queue has dropped after so many others. */
+void record_dropped(uint64_t number, const struct queue *q);
 /* The recording breaks off here; errno says why. */
 void record_give_up(const char *what);
 void record_finish(void);

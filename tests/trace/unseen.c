@@ -3,6 +3,7 @@
  *   late                  a thread submits while the process ends
  *   background, stays     a process in the background lacks a wait, and ends or stays
  *   list, gone            the list of a batch is filled anew too early, or unmapped
+ *   dropped               a queue of 16 places gets 40 moves at once
  *   record, stale         a record is cleared after the submission, or never
  *   long COUNT            which of so many moves are done at once
  *   gap US                a missing wait, with so many microseconds between the submissions
@@ -208,19 +209,35 @@ static void hang(int number)
     _exit(HUNG);
 }
 
-/* A record is cleared after its submission, or never. */
+/* A record is cleared after its submission, or never. A queue of 16 places drops none. */
 static int clear_late(bool clears)
 {
+    enum { TIMES = 16 };
     void *at = portal();
     const descriptor d = move(first, second, SIZE, &records[0]);
     signal(SIGALRM, hang);
     alarm(4);
-    for (int i = 0; i < 50; i++) {
+    for (int i = 0; i < TIMES; i++) {
         submit(at, &d);
         if (clears)
             records[0].status = 0;
         await(&records[0]);
     }
+    return 0;
+}
+
+/* Submits more than a dedicated queue of 16 places has room for, and awaits those. */
+static int overflow(void)
+{
+    enum { PLACES = 16, MANY_MORE = 40 };
+    void *at = portal();
+    uint8_t *from = fresh(4096), *to = fresh(4096);
+    for (int i = 0; i < MANY_MORE; i++) {
+        const descriptor d = move(from + i * SIZE, to + i * SIZE, SIZE, &records[i]);
+        submit(at, &d);
+    }
+    for (int i = 0; i < PLACES; i++)
+        await(&records[i]);
     return 0;
 }
 
@@ -324,6 +341,7 @@ int main(int argc, char **argv)
     static const struct { const char *word; int (*run)(void); } plain[] = {
         {"late", end_late}, {"list", refill}, {"gone", unmap_list}, {"reuse", refill_after_members},
         {"shared", share_record}, {"pace", time_moves}, {"asks", ask}, {"right", be_right}, {"parts", fill_a_part},
+        {"dropped", overflow},
     };
     const char *what = argc > 1 ? argv[1] : "right";
     for (size_t i = 0; i < sizeof plain / sizeof *plain; i++)

@@ -247,7 +247,8 @@ def watches():
 
 def threads():
     """An audit finds a wait that is missing between threads, or long before the next submission, since it sees which
-    records the program looks at; with --no-watch it does not."""
+    records the program looks at; with --no-watch it does not. A program that clears a record does not look at it, and
+    none that has closed the files of watchpoints is taken to have looked."""
     with tempfile.TemporaryDirectory(dir=WORK) as folder:
         shell = f"exec 2> /dev/null; ulimit -n 5; exec {client('unseen')} right"
         end = audited("--seeds", 2, "--", "sh", "-c", shell)
@@ -268,6 +269,13 @@ def threads():
         told(f"a stage that does not wait, seed {seed}", end, 1, "error: missing wait, read after write")
         none(f"stages that wait, seed {seed}", audited("--seed", seed, "--", client("stages")))
         none(f"--no-watch, seed {seed}", audited("--no-watch", "--seed", seed, *unseen("gap", 10000)))
+        for many in (1, 2, 4):  # of two records the writes are counted, of four not
+            end = audited("--seed", seed, *unseen("cleared", many))
+            said = f"{3 * many} missing waits, {4 * many} submissions"
+            told(f"{many} records that are cleared without a look, seed {seed}", end, 1, said)
+        told(f"files that are closed, seed {seed}", audited("--seed", seed, *unseen("closed")), 1,
+             "(submission 1): error: missing wait, read after write", "1 process has closed the files of watchpoints")
+        none(f"files that are closed after a wait, seed {seed}", audited("--seed", seed, *unseen("looks")))
 
 
 # ---- programs that submit nothing

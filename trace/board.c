@@ -50,6 +50,9 @@ void board_unwatched(const char *why)
         snprintf(board->why_unwatched, sizeof board->why_unwatched, "%s", why);
 }
 
+/// It is not known whether this process has looked at some records.
+void board_half_watched(void) { atomic_fetch_add(&board->half_watched, 1); }
+
 /// The recording of this process breaks off.
 void board_lose(const char *recording, const char *why)
 {

@@ -13,10 +13,11 @@ struct loss { _Atomic uint32_t is_written; int32_t process; char recording[64], 
 
 /* `submitted` counts what the queues took. A submission is counted after it is recorded, so a process that is killed
  * has none that is counted alone. `lost` counts the recordings that break off; the first of them are in `losses`.
- * `unwatched` counts the processes in which no record can be watched, and the first of them says why. */
+ * `unwatched` counts the processes in which no record can be watched, and the first of them says why; `half_watched`
+ * those that have closed the files of watchpoints, so that it is not known whether they have looked at some records. */
 struct board {
     _Atomic uint64_t submitted;
-    _Atomic uint32_t lost, unwatched;
+    _Atomic uint32_t lost, unwatched, half_watched;
     char why_unwatched[96];
     struct loss losses[MOST_LOSSES];
 };

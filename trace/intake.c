@@ -22,6 +22,8 @@ static struct submission *take_unused(void)
 static void put_in(struct submission *s)
 {
     board_submitted();
+    if (settings.watch)
+        watch_reuse(s->entry.completion_addr);
     records_enter(s, -1, &s->entry);
     for (unsigned i = 0; s->is_batch && i < s->count; i++)
         records_enter(s, i, &s->members[i]);

@@ -198,16 +198,22 @@ static void wait_for_work(int64_t nanoseconds)
     pthread_cond_timedwait(&order.work, &order.lock, &until);
 }
 
-/// Nothing is in flight: looks again every now and then before it sleeps, since waking it costs the program time.
+/// Nothing is in flight: looks again every now and then before it sleeps, since waking it costs the program time. For a
+/// second it also notes at which records the program looks, in case it then closes our files.
 static void rest(unsigned *rests)
 {
-    enum { LOOKS = 20, NANOSECONDS = 50000 };
+    enum { LOOKS = 20, SOON = 50000, NOTES = 100, LATER = 10000000 };
     if (++*rests < LOOKS) {
-        wait_for_work(NANOSECONDS);
+        wait_for_work(SOON);
         return;
     }
+    if (settings.watch)
+        watch_note_seen();
     order.sleeps = true;
-    pthread_cond_wait(&order.work, &order.lock);
+    if (settings.watch && *rests < LOOKS + NOTES)
+        wait_for_work(LATER);
+    else
+        pthread_cond_wait(&order.work, &order.lock);
     order.sleeps = false;
 }
 

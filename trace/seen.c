@@ -67,14 +67,19 @@ bool seen_mark(const char *records, const char *recording, const char *why)
     return errors && fclose(errors) == 0 && is_written;
 }
 
-/// Says once in which processes no records are watched, since then less is found.
+/// Says once in which processes not all records are watched, since then less is found, or too much.
 static void say_unwatched(const struct board *b)
 {
-    static bool is_said;
+    static bool is_said, is_half_said;
     if (b->unwatched && !is_said)
         fprintf(stderr, "dsa_trace: no watchpoints in %u process%s (%s): completions count as looked at, so waits that "
                 "threads lack may be missed\n", b->unwatched, b->unwatched > 1 ? "es" : "", b->why_unwatched);
+    if (b->half_watched && !is_half_said)
+        fprintf(stderr, "dsa_trace: %u process%s closed the files of watchpoints: completions that were watched then "
+                "count as not looked at, so a wait that is there may be called missing, but not with --no-watch\n",
+                b->half_watched, b->half_watched > 1 ? "es have" : " has");
     is_said |= b->unwatched;
+    is_half_said |= b->half_watched;
 }
 
 /// Says which recordings break off, and marks them; true if there are none.

@@ -145,6 +145,7 @@ void board_begin(void);
 bool board_is_there(void);
 void board_submitted(void);
 void board_unwatched(const char *why);
+void board_half_watched(void);
 void board_lose(const char *recording, const char *why);
 
 /* ---- watch.c: hardware watchpoints on completion records ---- */
@@ -154,6 +155,7 @@ bool watch_is_touched(int watch);
 bool watch_has(uint64_t record);
 void watch_completed(int watch, uint64_t number);
 void watch_note_seen(void);
+void watch_reuse(uint64_t record);
 void watch_forget(void);
 
 /* ---- masks.c: which signals the program blocks ---- */

@@ -7,11 +7,13 @@
  *   record, stale         a record is cleared after the submission, or never
  *   long COUNT            which of so many moves are done at once
  *   gap US                a missing wait, with so many microseconds between the submissions
+ *   cleared COUNT         records of so many moves are cleared for the next ones, and nobody looks at them
+ *   closed                all files are closed, also ours, and then a wait is missing
  *   after COUNT           a missing wait after so many moves that are waited for
  *   parts                 a missing wait between two parts of the recording
  *   asks                  does without the device if CPUID says so
  * and what is right: right; reuse (a list is filled anew after its members), shared (a record of two members with a
- * fence between), pace (prints how many microseconds a move takes). */
+ * fence between), looks (all files are closed after a wait), pace (prints how many microseconds a move takes). */
 #include "client.h"
 
 #include <cpuid.h>
@@ -313,6 +315,43 @@ static int submit_after(double gap)
     return strcmp((char *)third, "hello") ? WRONG : 0;
 }
 
+/* Moves to and fro four times, as many at once. Each time their records are cleared, and nobody looks at them. */
+static int clear_unseen(int many)
+{
+    void *at = portal();
+    uint8_t *memory = fresh(4096), *other = fresh(4096);
+    for (int times = 0; times < 4; times++) {
+        memset((void *)records, 0, many * sizeof *records);
+        for (int i = 0; i < many; i++) {
+            uint8_t *from = (times % 2 ? other : memory) + i * SIZE, *to = (times % 2 ? memory : other) + i * SIZE;
+            const descriptor d = move(from, to, SIZE, &records[i]);
+            submit(at, &d);
+        }
+        usleep(100000); /* all have ended */
+    }
+    for (int i = 0; i < many; i++)
+        await(&records[i]);
+    return 0;
+}
+
+/* Closes all files, also those of others, when a move has ended, and submits one of what it has written: `looks` says
+ * whether after a look at its record. */
+static int close_files(bool looks)
+{
+    void *at = portal();
+    const descriptor one = move(first, second, SIZE, &records[0]), other = move(second, third, SIZE, &records[1]);
+    submit(at, &one);
+    if (looks)
+        await(&records[0]);
+    usleep(300000);
+    for (int file = STDERR_FILENO + 1; file < 2000; file++)
+        close(file);
+    submit(at, &other);
+    await(&records[0]);
+    await(&records[1]);
+    return strcmp((char *)third, "hello") ? WRONG : 0;
+}
+
 /* Submits if CPUID says that it can, and else does it itself. */
 static int ask(void)
 {
@@ -355,6 +394,10 @@ int main(int argc, char **argv)
         return submit_long(argc > 2 ? atoi(argv[2]) : 10000);
     if (strcmp(what, "after") == 0)
         return lack_a_wait_after(argc > 2 ? atoi(argv[2]) : 12000);
+    if (strcmp(what, "closed") == 0 || strcmp(what, "looks") == 0)
+        return close_files(*what == 'l');
+    if (strcmp(what, "cleared") == 0)
+        return clear_unseen(argc > 2 ? atoi(argv[2]) : 1);
     if (strcmp(what, "gap") == 0)
         return submit_after(argc > 2 ? atof(argv[2]) : 200);
     return lose(what);

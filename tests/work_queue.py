@@ -187,6 +187,10 @@ KEPT += "restore what the list has changed, and run it again\n"
 CHECKED = "operation {}: the check failed, {}; nothing after the next barrier was begun\n"
 DELTA = "operation 0: the offsets of the delta {}; correct the delta\n"
 OVERLAP = "operation 0: its source and its target overlap, and this device can't move that; use memmove\n"
+OVERLAPS_NOW = "operation {}: its source and its target overlap where it was placed, and this device can't move that; "
+OVERLAPS_NOW += "place it elsewhere\n"
+NOT_THERE = "dsa_list_place: there is no operation 2, and nothing was placed; place all of the list's 2 in order, from 0, "
+NOT_THERE += "or prepare or clear it\n"
 FULL = "{} has not accepted an entry for {} ms, and nothing more was begun; it is enabled\n"
 SILENT = QUEUES[0] + " has not answered for {} ms; it is {}; leave the buffers as they are, since the device may still "
 SILENT += "use them\n"
@@ -202,6 +206,7 @@ SAID = {
     "operation 0 has 4294967296 bytes, and one may have at most 4294967295; use several\n"
     "operation 3: a list of this queue has at most 3 pieces; open the queue with more\n"
     "refused 8: descriptor 0: the low twelve bits of a dualcast's destinations differ\n" + DONE,
+    "misplaced": 2 * (NOT_THERE + DONE + DONE),
     "again": DONE,
     "polled": "the queue was opened without DSA_QUEUE_IN_FLIGHT; open it with this flag, or use dsa_list_run\n",
     "forked": 2 * "this process is a child of fork, and the queue is its parent's; open a queue here\n" + DONE,
@@ -222,6 +227,8 @@ def ends():
             ended(name, traced("--order", "all", *options, "--", client("ends"), name, queue), wanted)
     ended("no overlap", shell(f"echo 0x0 > {DEVICES}/dsa0/gen_cap; exec {client('ends')} refused {QUEUES[0]}"),
           SAID["refused"].removesuffix(DONE) + OVERLAP)
+    ended("placed without overlap", shell(f"echo 0x0 > {DEVICES}/dsa0/gen_cap; exec {client('ends')} overlapped"),
+          OVERLAPS_NOW.format(0) + OVERLAPS_NOW.format(1) + OVERLAPS_NOW.format(1) + DONE)
     for size in (1, 2, 3):
         for mode in ("dedicated", "shared"):
             words = ["--queue", f"{mode},{size},x", "--order", "fifo" if mode == "shared" else "all"]
@@ -340,7 +347,7 @@ def records():
 
 def software():
     """The processor in the place of a device: the same memory, results and sentences; with sanitizers too."""
-    said = {name: SAID[name] for name in ("options", "failing", "refused", "again", "polled", "forked")}
+    said = {name: SAID[name] for name in ("options", "failing", "refused", "misplaced", "again", "polled", "forked")}
     said["threads"] = ""
     for flags in ([], SANITIZE, SANITIZE_THREADS):
         if flags and not sanitizers(flags):
@@ -392,6 +399,7 @@ WRONG = [
      "placed"),
     ("a list that was placed elsewhere keeps its plan", "list.c", "    list->is_planned = false;\n", "    ;\n",
      "placed"),
+    ("a place that fails is forgotten", "run.c", "        return list->misplaced;\n", "        ;\n", "misplaced"),
     ("a barrier is lost", "list.c", "        dsa_set_flags(to, DSA_BARRIER);\n", "        ;\n", "journal"),
     ("a move goes on a byte too far", "fault.c", "number_at(d + 16, 8) + done, 8);",
      "number_at(d + 16, 8) + done + 1, 8);", "lists"),
@@ -409,6 +417,7 @@ RUNS = {
     "threads": ["ends", "threads", QUEUES[0]],
     "polled": ["ends", "polled", QUEUES[0]],
     "placed": ["placed", QUEUES[0], LISTS, 1],
+    "misplaced": ["ends", "misplaced", QUEUES[0]],
     "after": ["stopped", "after"],
     "in_flight": ["stopped", "in_flight"],
 }

@@ -37,6 +37,12 @@ static bool overlaps(const uint8_t *d)
     return d[7] == OPCODE_MOVE && ranges_meet(number_at(d + 16, 8), number_at(d + 24, 8), number_at(d + 32, 4));
 }
 
+/// Whether the device can't do an operation of the list where it is now.
+static bool is_misplaced(const struct dsa_list *list, uint32_t operation)
+{
+    return !list->queue->may_overlap && overlaps(list->list + ENTRY * operation);
+}
+
 /// The operations are others than those that were planned, and no result is that of the list as it is now.
 static void change(struct dsa_list *list)
 {
@@ -72,21 +78,51 @@ int dsa_list_add(struct dsa_list *list, const uint8_t descriptor[64], uint64_t s
     return (int)list->operations++;
 }
 
+void list_look(struct dsa_list *list)
+{
+    uint32_t i = 0;
+    while (i < list->operations && !is_misplaced(list, i))
+        i++;
+    list->misplaced = i < list->operations ? OVERLAPS_NOW : NO_REASON;
+    list->at_misplaced = (int)i;
+}
+
+/// Notes how an operation was placed: a wrong place of it is mended by a right one, and a wrong number, after which
+/// nobody knows which operations are where they should be, by places of all.
+static void note_place(struct dsa_list *list, int operation)
+{
+    if (list->misplaced == NOT_THERE) {
+        list->placed += (uint32_t)operation == list->placed;
+        if (list->placed == list->operations)
+            list_look(list);
+    } else if (list->misplaced && operation == list->at_misplaced)
+        list_look(list);
+    else if (!list->misplaced && is_misplaced(list, (uint32_t)operation)) {
+        list->misplaced = OVERLAPS_NOW;
+        list->at_misplaced = operation;
+    }
+}
+
 int dsa_list_place(struct dsa_list *list, int operation, const void *first, const void *second, const void *third)
 {
     const void *const places[] = {first, second, third};
     struct operand operands[3];
     flight_settle(list);
-    if (operation < 0 || (uint32_t)operation >= list->operations)
+    change(list);
+    if (operation < 0 || (uint32_t)operation >= list->operations) {
+        list->reason = list->misplaced = NOT_THERE;
+        list->at_misplaced = operation;
+        list->placed = 0;
         return -1;
+    }
     uint8_t *d = list->list + ENTRY * operation;
     for (uint32_t k = operands_of(d, operands); k > 0; k--)
         if (places[k - 1])
             dsa_put_number(d + operands[k - 1].at, address_of(places[k - 1]), 8);
-    change(list);
-    if (!list->queue->may_overlap && overlaps(d))
-        return refuse(list, (uint32_t)operation, MAY_NOT_OVERLAP, 0);
-    return operation;
+    note_place(list, operation);
+    if (list->misplaced)
+        list->reason = list->misplaced;
+    return is_misplaced(list, (uint32_t)operation) ? -1 : operation;
 }
 
 void dsa_list_barrier(struct dsa_list *list)
@@ -100,7 +136,7 @@ void dsa_list_clear(struct dsa_list *list)
     flight_settle(list);
     list->operations = list->pieces = 0;
     list->is_after_barrier = list->is_prepared = false;
-    list->trouble = NO_REASON;
+    list->trouble = list->misplaced = NO_REASON;
     flight_forget(list);
     change(list);
 }

@@ -118,6 +118,7 @@ static int refuse(struct dsa_list *list, enum reason why)
 int dsa_list_prepare(struct dsa_list *list)
 {
     flight_settle(list);
+    list_look(list);
     const enum reason why = run_begin(list);
     if (why)
         return refuse(list, why);

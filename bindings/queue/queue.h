@@ -21,6 +21,7 @@ enum { OPCODE_BATCH = 1, OPCODE_MOVE = 3, OPCODE_FILL = 4, OPCODE_COMPARE = 5, O
 enum reason {
     NO_REASON,
     NO_ROOM, TOO_LONG, MAY_NOT_OVERLAP,             /* of what was added; kept until the list is cleared */
+    NOT_THERE, OVERLAPS_NOW,                        /* of what was placed; kept until that is right */
     NOT_RUN, EMPTY, FORKED, WITH_DEVICE, UNPLANNED, NO_MEMORY, /* nothing was begun */
     NOT_TRACKED, AFTER_FAILED, AFTER_LOST,          /* the same of a list that was started */
     OPERATION, BATCH, NOT_RESUMED, NO_PROGRESS, NOT_ACCEPTED, NOT_WRITTEN, NOT_ANSWERED
@@ -62,6 +63,9 @@ struct dsa_list {
     uint32_t operations, pieces, entries, entry; /* `entry`: the next, or the one that has failed */
     uint32_t at_fault;               /* the operation of `trouble` */
     uint64_t size_at_fault;
+    enum reason misplaced;           /* what placing met, or NO_REASON */
+    int at_misplaced;                /* the operation that it was called for */
+    uint32_t placed;                 /* after NOT_THERE: how many operations were placed anew, in order */
     uint64_t left_len, left_bytes;   /* of `left`, and of its transfers */
     uint32_t fruitless;              /* how often in a row resuming has left as much as before */
     uint8_t *records, *staging;      /* what the device touches, and the child of a fork has not */
@@ -128,6 +132,8 @@ struct operand { uint8_t at; uint64_t first, len; };
 /* What an operation reads and writes: where its descriptor has the address, the address and the bytes. They are in the
  * order in which the call that adds it takes them. Answers how many there are. */
 uint32_t operands_of(const uint8_t *d, struct operand operands[3]);
+/* Looks where all operations are now, and forgets that one was placed that the list has not. */
+void list_look(struct dsa_list *list);
 
 /* ---- driver.c ---- */
 enum { STATE_ROOM = 64 };

@@ -41,6 +41,8 @@ static enum reason hindrance(struct dsa_list *list)
         return WITH_DEVICE;
     if (list->trouble)
         return list->trouble;
+    if (list->misplaced)
+        return list->misplaced;
     return list->operations ? NO_REASON : EMPTY;
 }
 

@@ -116,6 +116,14 @@ static void why_refused(const struct dsa_list *list, char why[DSA_WHY_ROOM])
         why_not(why, "operation %u: its source and its target overlap, and this device can't move that; use memmove",
                 i);
         break;
+    case NOT_THERE:
+        why_not(why, "dsa_list_place: there is no operation %d, and nothing was placed; place all of the list's %u in "
+                "order, from 0, or prepare or clear it", list->at_misplaced, list->operations);
+        break;
+    case OVERLAPS_NOW:
+        why_not(why, "operation %d: its source and its target overlap where it was placed, and this device can't move "
+                "that; place it elsewhere", list->at_misplaced);
+        break;
     case FORKED:
         why_not(why, in_child);
         break;

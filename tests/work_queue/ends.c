@@ -192,6 +192,56 @@ static int refused(void)
     return right && (end == DSA_LIST_DONE || end == DSA_LIST_REFUSED);
 }
 
+/* Places that fail: until they are right, nothing is begun, and what was placed before keeps its bytes. */
+static int misplaced(void)
+{
+    static const struct dsa_queue_options all[] = {{0}, {.flags = DSA_QUEUE_IN_FLIGHT}};
+    int right = 1;
+    for (int i = 0; i < 2; i++) {
+        struct dsa_queue *queue = opened(&all[i]);
+        struct dsa_list *list = dsa_list_get(queue);
+        memset(a, 7, sizeof a);
+        const int first = dsa_list_move(list, a, b, 64), second = dsa_list_move(list, a, b + 64, 64);
+        right = right && dsa_list_prepare(list) == 0 && dsa_list_run(list) == DSA_LIST_DONE;
+        memset(b, 1, 128);
+        right = right && dsa_list_place(list, second + 1, a, c, NULL) == -1 && strstr(dsa_list_why(list, why), "place");
+        right = ends(list, DSA_LIST_REFUSED) && right;
+        right = right && dsa_list_start(list) == DSA_LIST_REFUSED && dsa_list_result(list, 0).status == 0;
+        right = right && b[0] == 1 && b[127] == 1 && dsa_list_place(list, second, a, c + 64, NULL) == second;
+        right = right && dsa_list_place(list, first, a, c, NULL) == first;
+        right = right && dsa_list_run(list) == DSA_LIST_REFUSED && b[0] == 1; /* not in order */
+        right = right && dsa_list_place(list, second, a, c + 64, NULL) == second;
+        right = ends(list, DSA_LIST_DONE) && right && b[0] == 1 && b[127] == 1 && c[0] == 7 && c[127] == 7;
+        right = right && dsa_list_place(list, -1, a, b, NULL) == -1 && dsa_list_run(list) == DSA_LIST_REFUSED;
+        right = right && dsa_list_prepare(list) == 0 && dsa_list_run(list) == DSA_LIST_DONE;
+        right = right && dsa_list_place(list, -1, a, b, NULL) == -1;
+        dsa_list_clear(list);
+        dsa_list_move(list, a, b, 64);
+        right = ends(list, DSA_LIST_DONE) && right && b[0] == 7 && b[127] == 1;
+        dsa_queue_close(queue);
+    }
+    return right;
+}
+
+/* The same of places that a device without gen_cap's overlap can't do: two moves, of which each has to be mended. */
+static int overlapped(void)
+{
+    struct dsa_queue *queue = opened(NULL);
+    struct dsa_list *list = dsa_list_get(queue);
+    dsa_list_move(list, a, b, 64);
+    dsa_list_move(list, a, c, 64);
+    int right = dsa_list_prepare(list) == 0 && dsa_list_place(list, 0, NULL, a + 8, NULL) == -1 &&
+                dsa_list_place(list, 1, NULL, a + 16, NULL) == -1;
+    right = ends(list, DSA_LIST_REFUSED) && right && dsa_list_place(list, 0, NULL, b, NULL) == 0;
+    right = ends(list, DSA_LIST_REFUSED) && right && dsa_list_prepare(list) == -1;
+    right = right && dsa_list_place(list, 2, a, b, NULL) == -1 && dsa_list_place(list, 0, NULL, b, NULL) == 0;
+    right = right && dsa_list_run(list) == DSA_LIST_REFUSED && dsa_list_place(list, 1, NULL, a + 16, NULL) == -1;
+    right = ends(list, DSA_LIST_REFUSED) && right && dsa_list_place(list, 1, NULL, c, NULL) == 1;
+    right = ends(list, DSA_LIST_DONE) && right;
+    dsa_queue_close(queue);
+    return right;
+}
+
 /* One list over and over: each turn its records, and those of its batches, are clear again. */
 static int again(void)
 {
@@ -354,8 +404,8 @@ int main(int argc, char **argv)
 {
     static const struct { const char *name; int (*run)(void); } cases[] = {
         {"open", open_it}, {"or_software", or_software}, {"options", options}, {"absent", absent}, {"kept", kept},
-        {"both", both}, {"failing", failing}, {"refused", refused}, {"again", again}, {"forked", forked},
-        {"polled", polled}, {"threads", threads}, {"limit", limit}, {"dropped", dropped},
+        {"both", both}, {"failing", failing}, {"refused", refused}, {"misplaced", misplaced}, {"overlapped", overlapped},
+        {"again", again}, {"forked", forked}, {"polled", polled}, {"threads", threads}, {"limit", limit}, {"dropped", dropped},
     };
     setvbuf(stdout, NULL, _IOLBF, 0);
     file = argc > 2 ? argv[2] : NULL;

@@ -195,7 +195,8 @@ FULL = "{} has not accepted an entry for {} ms, and nothing more was begun; it i
 SILENT = QUEUES[0] + " has not answered for {} ms; it is {}; leave the buffers as they are, since the device may still "
 SILENT += "use them\n"
 SAID = {
-    "options": "a queue has at most 64 lists, and a list at most 65536 pieces\n",
+    "options": "a queue has at most 64 lists, and a list at most 65536 pieces\n"
+    "no flag of a queue is AT; dsa_queue.h has them\n",
     "absent": FAULT.format(1, "read", 3, "reading") + "at the page 1\n" + DONE + FAULT.format(0, "write", 3, "writing"),
     "kept": KEPT.format(3) + KEPT.format(4),
     "both": CHECKED.format(1, "the first difference is at byte 0"),
@@ -367,10 +368,43 @@ def software():
             told(f"placed in software {flags}", end, 0, " 0 wrong")
         for name, wanted in said.items():
             ended(f"{name} in software {flags}", ran(client("ends_alone"), name, "software"), wanted)
-    missing = "{}: " + f"{DEVICES} has no such queue of DSA; accel-config list shows those that there are\n"
-    ended("software if there is no such queue", ran(client("ends"), "or_software", "/dev/dsa/wq9.9"),
-          "software: " + missing.format("/dev/dsa/wq9.9") + DONE)
+
+
+NO_SUCH = f"FILE: {DEVICES} has no such queue of DSA; accel-config list shows those that there are"
+NO_NAME = "a queue's file has 1 to 255 bytes, and there is a name of 0; names are between colons"
+# What is named if software would do: what is said on a machine without a device, where it does them if the second is
+# true, and under dsa_trace, where it does them never.
+OR_SOFTWARE = [
+    ("/dev/dsa/wq9.9", True, NO_SUCH, NO_SUCH),
+    ("/dev/dsa/wq9.9:/dev/dsa/wq9.8", True, NO_SUCH.replace("FILE", "/dev/dsa/wq9.9"), NO_SUCH),
+    ("", False, NO_NAME, NO_NAME),
+    (f"{QUEUES[0]}:", False, NO_NAME, NO_NAME),
+    (f"{QUEUES[0]}:{QUEUES[0]}", False, *2 * (f"{QUEUES[0]} is there twice; name it once",)),
+    ("/etc/passwd", False, NO_SUCH, NO_SUCH),
+    ("/dev/dsa/wq0.0x", False, NO_SUCH, NO_SUCH.replace(" of DSA", "")),
+    ("/dev/dsa", False, NO_SUCH, NO_SUCH),
+    ("WORK/wq0.0", False, NO_SUCH, ""),
+    (QUEUES[1], True, NO_SUCH, f"{QUEUES[1]}: the queue is disabled; accel-config enable-wq enables it"),
+]
+
+
+def or_software():
+    """DSA_QUEUE_OR_SOFTWARE hides no wrong name, and no queue that is there and can't be opened."""
+    Path(WORK, "wq0.0").write_text("")
+    for name, is_done, alone, with_device in OR_SOFTWARE:
+        file = name.replace("WORK", WORK)
+        if not Path(DEVICES).exists():
+            said = alone.replace("FILE", file) + "\n"
+            end = ran(client("ends"), "or_software", file)
+            ended(f"{name} or software", end, f"software: {said}{DONE}" if is_done else said, 0 if is_done else 2)
+        if with_device:
+            end = shell(f"echo wq0.1 > {UNBIND}; exec {client('ends')} or_software '{file}'")
+            said = with_device.replace("FILE", file.split(":")[0])
+            ended(f"{name} or software, with a device", end, said + "\n", 2)
     ended("a device, though software would do", traced("--", client("ends"), "or_software"), f"{QUEUES[0]}: \n" + DONE)
+    unbound = shell(f"echo wq0.0 > {UNBIND}; echo wq0.1 > {UNBIND}; exec {client('ends')} or_software")
+    said = f"software: no queue of type user is enabled in {DEVICES}; accel-config load-config makes one\n"
+    ended("no name, and no queue that is enabled", unbound, said + DONE)
 
 
 # Wrong variants of the layer: a file, what is changed, and a run that has to see it.
@@ -465,7 +499,7 @@ def main(words):
     told("the build of threads", compiled(THREADS.stem, source=THREADS), 0)
     told("the build of the journal", compiled(JOURNAL.stem, source=JOURNAL), 0)
     parts = [built, lists, several, written, placed, threads, journal, ends, opening, stopped, allocations, records]
-    parts += [software, speed, wrong]
+    parts += [software, or_software, speed, wrong]
     for part in named(parts, words):
         part()
 

@@ -184,10 +184,11 @@ class Queue:
 
     `keep_faults`: a page fault fails its operation, and no page is made present. `block_on_fault`: the device waits for
     absent pages itself, if the queue allows that. `or_software`: without a device the processor does the lists, and
-    `missing` says why. `software`: it does them even if there is a device. `in_flight`: lists may be started, and
-    several be in flight; then all lists are ordered. There are at most `lists` at a time, at most 64 (0: 16), each of
-    at most `pieces` pieces (0: 64). After `wait_ms` milliseconds (0: 10,000) an entry counts as lost. `prices` are
-    those of a lone descriptor, a batch and a fence (all 0: 10, 14, 3)."""
+    `missing` says why; a queue that is named and can't be opened is an error if there is a device. `software`: it does
+    them even if there is a device. `in_flight`: lists may be started, and several be in flight; then all lists are
+    ordered. There are at most `lists` at a time, at most 64 (0: 16), each of at most `pieces` pieces (0: 64). After
+    `wait_ms` milliseconds (0: 10,000) an entry counts as lost. `prices` are those of a lone descriptor, a batch and a
+    fence (all 0: 10, 14, 3)."""
 
     def __init__(self, file: Union[str, "os.PathLike[str]", None] = None, *, keep_faults: bool = False,
                  block_on_fault: bool = False, or_software: bool = False, software: bool = False,

@@ -156,6 +156,26 @@ const char *driver_state(const struct port *port, char state[STATE_ROOM])
     return attribute(name_of(port->name), "state", state) ? state : "gone";
 }
 
+bool driver_is_absent(const char *file)
+{
+    const char *name = name_of(file);
+    unsigned device, queue;
+    int end = 0;
+    return sscanf(name, "wq%u.%u%n", &device, &queue, &end) == 2 && !name[end] && access(file, F_OK) != 0;
+}
+
+static int is_device(const struct dirent *entry) { return strncmp(entry->d_name, "dsa", 3) == 0; }
+
+bool driver_has_device(void)
+{
+    struct dirent **names = NULL;
+    const int count = scandir(folder, &names, is_device, NULL);
+    for (int i = 0; i < count; i++)
+        free(names[i]);
+    free(names);
+    return count > 0;
+}
+
 static int is_queue(const struct dirent *entry) { return strncmp(entry->d_name, "wq", 2) == 0; }
 
 /// The first queue that can be opened; else why the first of type user can't.

@@ -52,8 +52,10 @@ struct dsa_list;  /* operations, their completion records, and what submits them
 enum {
     DSA_QUEUE_KEEP_FAULTS = 1,    /* a page fault fails its operation, and no page is made present */
     DSA_QUEUE_BLOCK_ON_FAULT = 2, /* the device waits for absent pages itself, if the queue allows that */
-    DSA_QUEUE_OR_SOFTWARE = 4,    /* without a device the processor does the lists, and why says what is missing */
-    DSA_QUEUE_SOFTWARE = 8,       /* the processor does the lists, even if there is a device */
+    DSA_QUEUE_OR_SOFTWARE = 4,    /* without a device the processor does the lists, and why says what is missing: if no
+                                     file is named and no queue can be opened, or if those that are named, as
+                                     /dev/dsa/wq0.0, are not there and the machine has no device at all */
+    DSA_QUEUE_SOFTWARE = 8,       /* the processor does the lists, even if there is a device; no file is looked at */
     DSA_QUEUE_IN_FLIGHT = 16      /* lists may be started, and several be in flight; then all lists are ordered */
 };
 
@@ -72,8 +74,8 @@ struct dsa_queue_options {
 
 /* Opens a queue by its file, or with NULL the first one that is enabled, is of type user, and can be opened. Several
  * files, at most 16, have colons between them, so no name may have one; transfer sizes, batches and flags are then
- * those that all of them allow, and one that can't be opened fails the call. NULL: why says what is missing and what to
- * do; else why is empty if there is a device. options may be NULL. */
+ * those that all of them allow, and one that can't be opened fails the call, as wrong names and unknown flags do. NULL:
+ * why says what is missing and what to do; else why is empty if there is a device. options may be NULL. */
 struct dsa_queue *dsa_queue_open(const char *file, const struct dsa_queue_options *options, char why[DSA_WHY_ROOM]);
 /* Waits for lists in flight; no other call of the queue may run. The memory of lists that are lost stays mapped. */
 void dsa_queue_close(struct dsa_queue *queue);

@@ -16,36 +16,58 @@ static void set_widest(struct dsa_queue *queue, uint32_t flags)
     queue->may_overlap = true;
 }
 
-/// Opens the work queue of one of the names between colons.
-static bool open_part(struct dsa_queue *queue, const char *name, size_t len, char why[DSA_WHY_ROOM])
+/* The names of files, which have colons between them where they are given. */
+struct names { uint32_t count; char name[MOST_PORTS][NAME_ROOM]; };
+
+static bool take_name(struct names *to, const char *name, size_t len, char why[DSA_WHY_ROOM])
 {
-    char file[sizeof queue->port->name];
-    if (len == 0 || len >= sizeof file)
-        return why_not(why, "a queue's file has 1 to %zu bytes, and there is a name of %zu; names are between colons",
-                       sizeof file - 1, len);
-    if (queue->ports == MOST_PORTS)
+    if (len == 0 || len >= NAME_ROOM)
+        return why_not(why, "a queue's file has 1 to %d bytes, and there is a name of %zu; names are between colons",
+                       NAME_ROOM - 1, len);
+    if (to->count == MOST_PORTS)
         return why_not(why, "there are more than %d files; open a second queue", MOST_PORTS);
-    memcpy(file, name, len);
-    file[len] = 0;
-    for (uint32_t i = 0; i < queue->ports; i++)
-        if (strcmp(queue->port[i].name, file) == 0)
-            return why_not(why, "%s is there twice; name it once", file);
-    return driver_open(queue, file, why);
+    char *last = to->name[to->count];
+    memcpy(last, name, len);
+    last[len] = 0;
+    for (uint32_t i = 0; i < to->count; i++)
+        if (strcmp(to->name[i], last) == 0)
+            return why_not(why, "%s is there twice; name it once", last);
+    to->count++;
+    return true;
 }
 
-/// Opens all work queues that are named.
-static bool open_all(struct dsa_queue *queue, const char *files, char why[DSA_WHY_ROOM])
+static bool take_names(struct names *to, const char *files, char why[DSA_WHY_ROOM])
 {
-    if (strlen(files) >= sizeof queue->name)
-        return why_not(why, "the names of files have more than %zu bytes; name fewer", sizeof queue->name - 1);
+    to->count = 0;
+    if (strlen(files) >= NAMES_ROOM)
+        return why_not(why, "the names of files have more than %d bytes; name fewer", NAMES_ROOM - 1);
     for (const char *at = files;; at++) {
         const size_t len = strcspn(at, ":");
-        if (!open_part(queue, at, len, why))
+        if (!take_name(to, at, len, why))
             return false;
         at += len;
         if (!*at)
             return true;
     }
+}
+
+/// Opens all work queues that are named.
+static bool open_all(struct dsa_queue *queue, const struct names *names, char why[DSA_WHY_ROOM])
+{
+    for (uint32_t i = 0; i < names->count; i++)
+        if (!driver_open(queue, names->name[i], why))
+            return false;
+    return true;
+}
+
+/// Whether all are names of queues that a device would have which is not there. A wrong name is the caller's mistake,
+/// and a queue that is there and can't be opened has a reason that software would hide.
+static bool are_absent(const struct names *names)
+{
+    uint32_t i = 0;
+    while (i < names->count && driver_is_absent(names->name[i]))
+        i++;
+    return i == names->count && !driver_has_device();
 }
 
 /// Queues without batches get a price at which no batch is planned.
@@ -64,15 +86,18 @@ static void set_name_and_prices(struct dsa_queue *queue, const char *name)
 static bool open_any(struct dsa_queue *queue, const char *files, char why[DSA_WHY_ROOM])
 {
     const uint32_t flags = queue->flags;
+    struct names names;
     why[0] = 0;
     if (!(flags & DSA_QUEUE_SOFTWARE)) {
-        if (files ? open_all(queue, files, why) : driver_open_first(queue, why)) {
+        if (files && !take_names(&names, files, why))
+            return false;
+        if (files ? open_all(queue, &names, why) : driver_open_first(queue, why)) {
             why[0] = 0; /* of a queue that was passed over */
             set_name_and_prices(queue, files ? files : queue->port[0].name);
             return true;
         }
         driver_close(queue, true);
-        if (!(flags & DSA_QUEUE_OR_SOFTWARE))
+        if (!(flags & DSA_QUEUE_OR_SOFTWARE) || (files && !are_absent(&names)))
             return false;
     }
     set_widest(queue, flags);
@@ -85,6 +110,18 @@ static bool has_waitpkg(void)
     unsigned a = 7, b, c = 0, d;
     __asm__ volatile("cpuid" : "+a"(a), "=b"(b), "+c"(c), "=d"(d));
     return c >> 5 & 1;
+}
+
+/// Whether the options are those of a queue that can be; else why not.
+static bool are_right(const struct dsa_queue_options *o, char why[DSA_WHY_ROOM])
+{
+    const uint32_t known = DSA_QUEUE_KEEP_FAULTS | DSA_QUEUE_BLOCK_ON_FAULT | DSA_QUEUE_OR_SOFTWARE |
+                           DSA_QUEUE_SOFTWARE | DSA_QUEUE_IN_FLIGHT;
+    if (o->lists > MOST_LISTS || o->pieces > DSA_MOST_PIECES)
+        return why_not(why, "a queue has at most %d lists, and a list at most %u pieces", MOST_LISTS, DSA_MOST_PIECES);
+    if (o->flags & ~known)
+        return why_not(why, "no flag of a queue is %#x; dsa_queue.h has them", o->flags & ~known);
+    return true;
 }
 
 static void set_options(struct dsa_queue *queue, const struct dsa_queue_options *o)
@@ -110,13 +147,13 @@ static void set_options(struct dsa_queue *queue, const struct dsa_queue_options 
 struct dsa_queue *dsa_queue_open(const char *file, const struct dsa_queue_options *options, char why[DSA_WHY_ROOM])
 {
     static const struct dsa_queue_options none;
+    if (options && !are_right(options, why))
+        return NULL;
     struct dsa_queue *queue = calloc(1, sizeof *queue);
     if (!queue)
         return why_not(why, "there is not enough memory for a queue"), NULL;
     set_options(queue, options ? options : &none);
-    if (queue->lists > MOST_LISTS || queue->most > DSA_MOST_PIECES)
-        why_not(why, "a queue has at most %d lists, and a list at most %u pieces", MOST_LISTS, DSA_MOST_PIECES);
-    else if (open_any(queue, file, why) && room_take(queue, why))
+    if (open_any(queue, file, why) && room_take(queue, why))
         return queue;
     driver_close(queue, true);
     free(queue);

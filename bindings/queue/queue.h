@@ -11,7 +11,7 @@
 
 #include "dsa_queue.h"
 
-enum { PAGE = 4096, MOST_LISTS = 64, MOST_PORTS = 16, RECORD = 32, ENTRY = 64 };
+enum { PAGE = 4096, MOST_LISTS = 64, MOST_PORTS = 16, NAME_ROOM = 256, NAMES_ROOM = 1024, RECORD = 32, ENTRY = 64 };
 enum { STATUS_SUCCESS = 1, STATUS_CHECK = 2, STATUS_FAULT = 3, STATUS_FAULT_BLOCKED = 4 };
 enum { STATUS_BATCH = 5, STATUS_BATCH_FAULT = 6, IS_WRITE = 0x80 };
 enum { OPCODE_BATCH = 1, OPCODE_MOVE = 3, OPCODE_FILL = 4, OPCODE_COMPARE = 5, OPCODE_COMPARE_PATTERN = 6,
@@ -36,7 +36,7 @@ struct port {
     int file;             /* -1: the portal is mapped */
     bool is_shared;
     _Atomic long credits; /* how many entries a dedicated queue still takes */
-    char name[256];
+    char name[NAME_ROOM];
 };
 
 /* Of a list that was started. It is IDLE before, and after a call has answered that it has ended. */
@@ -85,7 +85,7 @@ struct dsa_queue {
     bool may_overlap, has_waitpkg;
     uint32_t flags, lists, most, wait_ms;
     struct dsa_settings settings;
-    char name[1024];
+    char name[NAMES_ROOM];
     uint8_t *shared, *own;   /* the memory of all lists: what the device touches, which a child of fork has not, and
                                 the rest, whose first byte is 0 in a child of fork */
     size_t shared_size, own_size;
@@ -142,6 +142,10 @@ enum { STATE_ROOM = 64 };
 bool driver_open(struct dsa_queue *queue, const char *file, char why[DSA_WHY_ROOM]);
 /* The same of the first one that can be opened. */
 bool driver_open_first(struct dsa_queue *queue, char why[DSA_WHY_ROOM]);
+/* Whether the name is that of a queue's file, wq and two numbers, and there is no such file. */
+bool driver_is_absent(const char *file);
+/* Whether the driver has a device. */
+bool driver_has_device(void);
 /* Closes the work queues. In a child of fork no portal is mapped. */
 void driver_close(struct dsa_queue *queue, bool is_own);
 /* What the driver says of a work queue now: enabled, disabled, .. */

@@ -68,7 +68,10 @@ static int or_software(void)
 static int options(void)
 {
     const struct dsa_queue_options many = {.lists = 65}, long_ones = {.pieces = 65537}, most = {.lists = 64};
-    const int is_refused = !dsa_queue_open(file, &many, why) && !dsa_queue_open(file, &long_ones, why);
+    const struct dsa_queue_options unknown = {.flags = 0x80000020 | DSA_QUEUE_SOFTWARE};
+    int is_refused = !dsa_queue_open(file, &many, why) && !dsa_queue_open(file, &long_ones, why);
+    printf("%s\n", why);
+    is_refused = is_refused && !dsa_queue_open(file, &unknown, why);
     printf("%s\n", why);
     struct dsa_queue *queue = opened(&most);
     struct dsa_list *list = dsa_list_get(queue), *last = list;

@@ -59,7 +59,8 @@ pub struct Options {
     pub keep_faults: bool,
     /// The device waits for absent pages itself, if the queue allows that.
     pub block_on_fault: bool,
-    /// Without a device the processor does the lists, and [`Queue::missing`] says why.
+    /// Without a device the processor does the lists, and [`Queue::missing`] says why. A queue that is named and
+    /// can't be opened is an error if there is a device.
     pub or_software: bool,
     /// The processor does the lists, even if there is a device.
     pub software: bool,

@@ -115,6 +115,18 @@ def fitting():
         expect("fits nothing" not in end.stdout, f"{what}: {end.stdout}")
 
 
+def apart():
+    """What the program prints is on standard error, if standard output is for keys or for JSON alone."""
+    prints = f"printf 'no newline'; {client('ordered')} blind"
+    for form, is_right in ("--write-accept", lambda text: text == f"{WAIT}\n"), ("--json", json.loads):
+        for command in (prints, f"{prints}; printf 'the end'"):
+            end = audited(form, "--order", "fifo", "--", "sh", "-c", command)
+            right = "no newline" not in end.stdout and is_right(end.stdout)
+            expect(right and "no newline" in end.stderr, f"{form} beside output: {end.stdout}{end.stderr}")
+    end = audited("--order", "fifo", "--", "sh", "-c", prints)
+    expect(end.stdout.startswith("no newline"), f"the output of a program that is audited in words: {end.stdout}")
+
+
 # ---- options
 
 
@@ -377,7 +389,7 @@ def ctest():
         expect(len(cases) == 20 and all(len(it) == failed for it in cases), f"{word}: {len(cases)} test cases")
 
 
-PARTS = [keys, reports, noted, fitting, passed_on, in_json, in_junit, kept, late, unproved, terminal, nothing, ctest]
+PARTS = [keys, reports, noted, fitting, apart, passed_on, in_json, in_junit, kept, late, unproved, terminal, nothing, ctest]
 
 
 def main(words):

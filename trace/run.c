@@ -116,6 +116,13 @@ static void set_path(char to[PATH_MAX / 2], const char *path)
     fail(path);
 }
 
+/// What is written for a program that reads it stays alone on standard output: the keys, or the one object.
+static void keep_apart(const struct audit_options *o)
+{
+    if ((o->writes_keys || o->is_json) && dup2(STDERR_FILENO, STDOUT_FILENO) < 0)
+        fail("standard error, to which the program's output goes with --json and --write-accept");
+}
+
 /// In the process of the program: puts the files in place and starts it.
 static void become(const struct options *o, const char *folder, const char *board, const struct run *run)
 {
@@ -123,6 +130,7 @@ static void become(const struct options *o, const char *folder, const char *boar
     char tree[PATH_MAX];
     bool is_inside = o->has_namespace;
     s.seed = run->seed;
+    keep_apart(&o->audit);
     if (!o->has_pace)
         choose_pace(&s, run->records);
     make_folders(joined(tree, folder, "tree"));

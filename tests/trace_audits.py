@@ -202,6 +202,18 @@ def in_junit():
     expect([it[1][:2] for it in found] == [("error", "the audit has seen a part of the run")], f"the cases are {found}")
     found = cases("--timeout", 1, "--", "sleep", 100, status=124)
     expect(found == [("sleep, seed 1", ("error", "the program was ended by --timeout", ""))], f"the cases are {found}")
+    other = WAIT.replace("8192", "9")
+    known = accepting(WAIT, "# known", other)
+    runs = by_seed(s1="ordered blind", s2="unseen right")
+    passed = [("sh, seed 1",), ("sh, seed 2",)]
+    line = f"{WORK}/known.txt: line 3: error: this fits nothing: {other}\n"
+    found = cases("--audit", "--stacks", 0, "--deny", "stale", *known, *runs, status=1)
+    wanted = [*passed, ("accepted errors", ("failure", "accepted errors fit nothing", line))]
+    expect(found == wanted, f"the cases of a line that fits nothing are {found}")
+    as_json = cases("--audit", "--stacks", 0, "--json", "--deny", "stale", *known, *runs, status=1)
+    expect(as_json == wanted, f"beside JSON the cases of a line that fits nothing are {as_json}")
+    found = cases("--audit", "--stacks", 0, *known, *runs, status=0)
+    expect(found == passed, f"the cases of a line that fits nothing, which is no error, are {found}")
     shutil.copy(client("unseen"), f"{WORK}/a<b&c")
     found = cases("--audit", "--", f"{WORK}/a<b&c", "stale", status=1)
     expect(found[0][0] == "a<b&c, seed 1", f"the name is {found[0][0]}")

@@ -367,8 +367,17 @@ static bool print(const struct audits *a, bool has_failed)
     return has_errors;
 }
 
+/// The accepted lines that fit nothing, as a test case that fails.
+static void add_stale(const struct audits *a, const struct junit *j)
+{
+    FILE *lines = in_memory("the accepted keys");
+    stale_end(&a->stale, false, lines);
+    junit_add_stale(j, lines);
+    fclose(lines);
+}
+
 /// Prints the report, and answers the status of all audits.
-int audits_end(struct audits *a, const struct options *o, int program)
+int audits_end(struct audits *a, const struct options *o, const struct junit *j, int program)
 {
     const bool has_failed = program != 0;
     if (a->empty)
@@ -379,7 +388,10 @@ int audits_end(struct audits *a, const struct options *o, int program)
               stderr);
     if (a->empty < a->runs && a->runs > 1)
         say_which(a, o, has_failed);
-    if (print(a, has_failed) && !a->status)
+    const bool is_stale = print(a, has_failed);
+    if (is_stale && j->to)
+        add_stale(a, j);
+    if (is_stale && !a->status)
         a->status = 1;
     if (has_failed && program != TIMED_OUT && !a->empty && !a->faulty && !a->partial)
         say_what_else(o);

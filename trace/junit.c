@@ -55,6 +55,18 @@ void junit_add(const struct junit *j, const struct run *run, enum verdict verdic
     fputs("</testcase>\n", j->to);
 }
 
+/// Lines of the file of --accept that fit nothing and are errors, beside the runs, since they are of all of them.
+void junit_add_stale(const struct junit *j, FILE *lines)
+{
+    fputs("  <testcase classname=\"dsa_trace\" name=\"accepted errors\" time=\"0.000\">\n"
+          "    <failure message=\"accepted errors fit nothing\">",
+          j->to);
+    rewind(lines);
+    for (int c; (c = fgetc(lines)) != EOF;)
+        escape_xml(j->to, (char)c);
+    fputs("</failure>\n  </testcase>\n", j->to);
+}
+
 /// Ends the file.
 void junit_end(const struct junit *j)
 {

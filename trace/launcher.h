@@ -214,12 +214,14 @@ struct audits {
 bool audits_begin(struct audits *a, const struct options *o);
 enum verdict audit_run(struct audits *a, const struct run *run, bool is_one_of_many);
 /* Prints the report and says of which run, after a program with this status; answers the status of the audits. */
-int audits_end(struct audits *a, const struct options *o, int program);
+struct junit;
+int audits_end(struct audits *a, const struct options *o, const struct junit *j, int program);
 
-/* ---- junit.c: the runs as test cases ---- */
+/* ---- junit.c: the runs as test cases; `to` is NULL without --junit ---- */
 struct junit { FILE *to; const char *program; };
 void junit_begin(struct junit *j, const char *path, const char *program, bool is_unproved);
 void junit_add(const struct junit *j, const struct run *run, enum verdict verdict, FILE *report);
+void junit_add_stale(const struct junit *j, FILE *lines);
 void junit_end(const struct junit *j);
 
 /* ---- report.c: audits of runs that are kept ---- */

@@ -124,7 +124,7 @@ int main(int argc, char **argv)
     if (o.report && !report_runs(&o, &a, &j))
         return FAILED;
     const int status = o.report ? 0 : run_all(&o, own.folder, &a, &j);
-    const int missing = o.audits ? audits_end(&a, &o, status) : 0;
+    const int missing = o.audits ? audits_end(&a, &o, &j, status) : 0;
     if (o.junit)
         junit_end(&j);
     return missing && status != TIMED_OUT ? missing : status;

@@ -327,7 +327,8 @@ def audits():
     expect(end.stdout.count("error: ") == 1, f"of one missing wait is said {end.stdout}")
     end = audited("--order", "data", "--", client("ordered"), "early")
     words = "the audits find no errors; if the program does not fail with --order fifo"
-    told("a program that reads early", end, 3, words)
+    told("a program that reads early", end, 3, f"{words}, it uses memory itself before a record says",
+         "or a member publishes what others write, and needs a fence (in a list a barrier) before it")
     for mode in ("fenced", "waited", "member", "drain", "polled", "after"):
         for order in ("data", "all"):
             told(f"{mode} in the order {order}", audited("--order", order, "--", client("ordered"), mode), 0,

@@ -60,6 +60,14 @@ def keys():
         expect((end.returncode, end.stdout) == (0, f"{left}\n"), f"the key that is left: {end.returncode} {end.stdout}")
     end = audited("--write-accept", "--", "sh", "-c", f"{client('ordered')} blind; exit 3")
     told("the keys of a program that fails", end, 3, WAIT)
+    for names, *said in (
+        (["ordered waited"], "the audits find no errors; if the program"),
+        (["ordered blind"], "no errors but those that 1 line of ", "known.txt knows, and these may be why"),
+        (["ordered blind", "unseen stale"], "no errors but those that 2 lines of ", "known.txt know, and these may"),
+    ):
+        command = "; ".join(map(client, names)) + "; exit 3"
+        end = audited("--order", "fifo", *accepting("# known", WAIT, FENCE, STALE), "--", "sh", "-c", command)
+        told(f"the hint of {names}", end, 3, *said, "a member publishes what others write, and needs a fence")
 
 
 def reports():

@@ -314,16 +314,30 @@ static void say_which(const struct audits *a, const struct options *o, bool has_
         options_repeat(o, a->seed);
 }
 
-/// What a program that fails may lack although its audits find nothing.
-static void say_what_else(const struct options *o)
+/// How many lines of --accept are keys of errors that were found.
+static size_t accepted_count(const struct stale *s)
 {
+    size_t count = 0;
+    for (size_t i = 0; i < s->count; i++)
+        count += s->lines[i].is_used && *s->lines[i].text >= 'a' && *s->lines[i].text <= 'z';
+    return count;
+}
+
+/// What a program that fails may lack although its audits find nothing.
+static void say_what_else(const struct audits *a, const struct options *o)
+{
+    const size_t accepted = accepted_count(&a->stale);
+    fputs("dsa_trace: the audits find no errors", stderr);
+    if (accepted)
+        fprintf(stderr, " but those that %zu line%s of %s know%s, and these may be why the program fails", accepted,
+                accepted > 1 ? "s" : "", a->stale.file, accepted > 1 ? "" : "s");
     if (o->settings.fault)
-        fputs("dsa_trace: the audits find no errors; some moves may have been stopped by --fault: the program has to "
-              "look at the status of each record\n",
+        fputs("; some moves may have been stopped by --fault: the program has to look at the status of each record\n",
               stderr);
     else
-        fputs("dsa_trace: the audits find no errors; if the program does not fail with --order fifo, it uses memory "
-              "itself before a record says that the operation has ended\n",
+        fputs("; if the program does not fail with --order fifo, it uses memory itself before a record says that the "
+              "operation has ended, or a member publishes what others write, and needs a fence (in a list a barrier) "
+              "before it\n",
               stderr);
 }
 
@@ -394,7 +408,7 @@ int audits_end(struct audits *a, const struct options *o, const struct junit *j,
     if (is_stale && !a->status)
         a->status = 1;
     if (has_failed && program != TIMED_OUT && !a->empty && !a->faulty && !a->partial)
-        say_what_else(o);
+        say_what_else(a, o);
     fclose(a->report);
     fclose(a->last);
     stale_forget(&a->stale);

@@ -189,14 +189,17 @@ DELTA = "operation 0: the offsets of the delta {}; correct the delta\n"
 OVERLAP = "operation 0: its source and its target overlap, and this device can't move that; use memmove\n"
 OVERLAPS_NOW = "operation {}: its source and its target overlap where it was placed, and this device can't move that; "
 OVERLAPS_NOW += "place it elsewhere\n"
-NOT_THERE = "dsa_list_place: there is no operation 2, and nothing was placed; place all of the list's 2 in order, from 0, "
-NOT_THERE += "or prepare or clear it\n"
+NOT_THERE = "dsa_list_place: there is no operation 2, and nothing was placed; place all of the list's 2 in order, from "
+NOT_THERE += "0, or prepare or clear it\n"
 FULL = "{} has not accepted an entry for {} ms, and nothing more was begun; it is enabled\n"
 SILENT = QUEUES[0] + " has not answered for {} ms; it is {}; leave the buffers as they are, since the device may still "
 SILENT += "use them\n"
+LACKING = "the prices are {} for a lone descriptor, {} for a batch and {} for a fence; give those of both a lone "
+LACKING += "descriptor and a batch, or none\n"
 SAID = {
     "options": "a queue has at most 64 lists, and a list at most 65536 pieces\n"
-    "no flag of a queue is AT; dsa_queue.h has them\n",
+    "no flag of a queue is AT; dsa_queue.h has them\n"
+    + "".join(LACKING.format(*it) for it in ((7, 0, 0), (0, 8, 0), (0, 0, 9), (7, 0, 9), (0, 8, 9))),
     "absent": FAULT.format(1, "read", 3, "reading") + "at the page 1\n" + DONE + FAULT.format(0, "write", 3, "writing"),
     "kept": KEPT.format(3) + KEPT.format(4),
     "both": CHECKED.format(1, "the first difference is at byte 0"),

@@ -188,7 +188,7 @@ class Queue:
     them even if there is a device. `in_flight`: lists may be started, and several be in flight; then all lists are
     ordered. There are at most `lists` at a time, at most 64 (0: 16), each of at most `pieces` pieces (0: 64). After
     `wait_ms` milliseconds (0: 10,000) an entry counts as lost. `prices` are those of a lone descriptor, a batch and a
-    fence (all 0: 10, 14, 3)."""
+    fence (all 0: 10, 14, 3; else only that of a fence may be 0)."""
 
     def __init__(self, file: Union[str, "os.PathLike[str]", None] = None, *, keep_faults: bool = False,
                  block_on_fault: bool = False, or_software: bool = False, software: bool = False,

@@ -121,6 +121,10 @@ static bool are_right(const struct dsa_queue_options *o, char why[DSA_WHY_ROOM])
         return why_not(why, "a queue has at most %d lists, and a list at most %u pieces", MOST_LISTS, DSA_MOST_PIECES);
     if (o->flags & ~known)
         return why_not(why, "no flag of a queue is %#x; dsa_queue.h has them", o->flags & ~known);
+    if ((o->lone | o->batch | o->fence) && !(o->lone && o->batch))
+        return why_not(why, "the prices are %llu for a lone descriptor, %llu for a batch and %llu for a fence; give "
+                       "those of both a lone descriptor and a batch, or none", (unsigned long long)o->lone,
+                       (unsigned long long)o->batch, (unsigned long long)o->fence);
     return true;
 }
 

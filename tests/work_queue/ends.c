@@ -73,6 +73,16 @@ static int options(void)
     printf("%s\n", why);
     is_refused = is_refused && !dsa_queue_open(file, &unknown, why);
     printf("%s\n", why);
+    const struct dsa_queue_options lacking[] = {{.lone = 7}, {.batch = 8}, {.fence = 9}, {.lone = 7, .fence = 9},
+                                                {.batch = 8, .fence = 9}};
+    for (int i = 0; i < 5; i++) {
+        is_refused = is_refused && !dsa_queue_open(file, &lacking[i], why);
+        printf("%s\n", why);
+    }
+    const struct dsa_queue_options given = {.lone = 7, .batch = 8}; /* a fence costs nothing */
+    struct dsa_queue *cheap = opened(&given);
+    is_refused = is_refused && cheap->settings.lone == 7 && cheap->settings.batch == 8 && cheap->settings.fence == 0;
+    dsa_queue_close(cheap);
     struct dsa_queue *queue = opened(&most);
     struct dsa_list *list = dsa_list_get(queue), *last = list;
     for (int i = 1; i < 64; i++)
@@ -407,8 +417,9 @@ int main(int argc, char **argv)
 {
     static const struct { const char *name; int (*run)(void); } cases[] = {
         {"open", open_it}, {"or_software", or_software}, {"options", options}, {"absent", absent}, {"kept", kept},
-        {"both", both}, {"failing", failing}, {"refused", refused}, {"misplaced", misplaced}, {"overlapped", overlapped},
-        {"again", again}, {"forked", forked}, {"polled", polled}, {"threads", threads}, {"limit", limit}, {"dropped", dropped},
+        {"both", both}, {"failing", failing}, {"refused", refused}, {"misplaced", misplaced},
+        {"overlapped", overlapped}, {"again", again}, {"forked", forked}, {"polled", polled}, {"threads", threads},
+        {"limit", limit}, {"dropped", dropped},
     };
     setvbuf(stdout, NULL, _IOLBF, 0);
     file = argc > 2 ? argv[2] : NULL;

@@ -73,7 +73,8 @@ pub struct Options {
     pub pieces: u32,
     /// Milliseconds after which an entry counts as lost; 0: 10,000.
     pub wait_ms: u32,
-    /// The price of a lone descriptor, of a batch and of a fence; all 0: 10, 14, 3. `dsa_prices` measures them.
+    /// The price of a lone descriptor, of a batch and of a fence; all 0: 10, 14, 3, and else only that of a fence may
+    /// be 0. `dsa_prices` measures them.
     pub prices: (u64, u64, u64),
 }
 

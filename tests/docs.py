@@ -52,7 +52,7 @@ def README():
     expect(got.startswith(wanted), f"{page}: the audit begins {got[: len(wanted)]!r}, and not {wanted!r}")
     if shutil.which("gcc") and shutil.which("make"):
         with tempfile.TemporaryDirectory() as folder:
-            commands = block_after(page, "With gcc and make alone") + block_after(page, "    gcc -O2 -mmovdir64b")
+            commands = block_after(page, "In a clone gcc and make build") + block_after(page, "    gcc -O2 -mmovdir64b")
             commands = commands.replace("/tmp/", f"{folder}/").replace("$PWD/trace/out", folder)
             got = printed(commands.replace("make -C trace", f"make -s -C trace OUT={folder}"))
         expect('c is ""' in got, f"{page}: the program without a fence prints {got!r}")

@@ -2,8 +2,8 @@
 they show runs and prints what is shown. tests/package.py installs the package and calls it.
 
 A block of commands is an indented one, or one of the language sh. A line is a command if `$ ` is before it, or if its
-first word is one of PROGRAMS. A command without `$ ` has a row in COMMANDS, with the page and how it is to end: so a
-page can't show one that nothing runs."""
+first word is one of PROGRAMS or keeps what one prints. A command without `$ ` has a row in COMMANDS, with the page and
+how it is to end: so a page can't show one that nothing runs."""
 
 import gzip
 import os
@@ -39,7 +39,7 @@ COMMANDS = [
     ("USING", r"sed 's/\[false,true\]/[false,false]/' examples/judge.job | dsa", 1, "refused 43 Unfenced 0 1"),
     ("USING", "sed 's/0d000003/0c000003/' examples/check.job | dsa", 1, "refused 60 Plan 43 Unfenced 0 1"),
     ("PRICES", "dsa_prices /dev/dsa/wq0.0", 0, '"lone"'),
-    ("PRICES", "dsa_text explain $(dsa_prices --options) list.txt", 0, "cost"),
+    ("PRICES", "o=$(dsa_prices --options) && dsa_text explain $o list.txt", 0, "cost"),
     ("TRACE", "dsa_trace --audit --seeds 20 -- ./my_test", 0, "find no errors"),
 ]
 # How commands begin that other parts of the test run.
@@ -106,7 +106,7 @@ def shown(text):
             if line.startswith("$ "):
                 after = next((k for k in range(at + 1, len(lines)) if lines[k].startswith("$ ")), len(lines))
                 sessions.append((line[2:], "".join(f"{it}\n" for it in lines[at + 1 : after])))
-            elif line.split(" ", 1)[0] in PROGRAMS or line.startswith("./"):
+            elif line.split(" ", 1)[0] in PROGRAMS or re.match(r"\./|\w+=\$\(", line):
                 alone.append(line.strip())
     return sessions, alone
 
@@ -127,11 +127,6 @@ def prepared(reader, page):
         reader.put("dsa.known", "")
         (reader.folder / "build").mkdir()
         shutil.copy(reader.folder / "my_test", reader.folder / "build")
-        queue = "$(pkg-config --cflags --libs dsa_queue)"
-        for name, flags in ("barrier/publish", queue), ("trace/two_threads", "-pthread"):
-            words = f"cc -g -O2 -mmovdir64b examples/{name}.c {flags} -o {name.split('/')[1]}"
-            status, _, said = reader.run(words)
-            expect(status == 0, f"{words}: status {status}: {said[-500:]}")
     if page == "PRICES":
         reader.put("list.txt", "move 0x1000 -> 0x2000, 64 bytes, record 0x8000\n")
 

@@ -150,7 +150,7 @@ def two_threads():
         text = re.sub(r"0x[0-9a-f]+", "0x", text)
         return re.sub(r"\b(entry|submission|thread|byte|at) [\d.]+", r"\1", text).replace("examples/trace/", "")
 
-    page = block_after("docs/USING.md", "Places in the source").split("\n", 1)[1]
+    page = block_after("docs/USING.md", "Places in the source").split("\n", 2)[2]  # after two commands
     got = plain("\n".join(findings(end.stdout)[0]["lines"]))
     expect(got.startswith(plain(page.rstrip("\n"))), f"the page has\n{plain(page)}\nand the report\n{got}")
 

@@ -3,6 +3,7 @@ folder without the repository, with a path of /usr/bin and /bin (and cargo's). T
 dpkg, man, cmake, g++, clang and cargo where they are, and says so where they aren't. The words are names of parts."""
 
 import gzip
+import itertools
 import json
 import os
 import re
@@ -182,7 +183,13 @@ def debian():
     library = root / "usr/lib/x86_64-linux-gnu/libdsa_planner.so.1"
     module = {"PYTHONPATH": f"{root}/usr/lib/python3/dist-packages", "DSA_PLANNER_LIBRARY": str(library)}
     module["DSA_QUEUE_LIBRARY"] = str(library.with_name(make.QUEUE_SONAME))
-    tried("Python from the Debian package", "python3", "-c", "import dsa_planner, dsa_queue", **module)
+    tried("Python from the Debian package", "python3", "-c", f"import {', '.join(make.MODULES)}", **module)
+    kept = {path.name.split(".")[0] for path in root.rglob("*.pyc")}
+    expect(kept == {*make.MODULES}, f"Python has compiled {kept}")
+    said = tried("dpkg-deb --info", "dpkg-deb", "--field", path, "Description", **tools)
+    programs = {path.name for path in (root / "usr/bin").iterdir()}
+    expect(len(programs) == 5 and "Five programs" in said, f"the package has {programs}, and says\n{said}")
+    expect(all(re.search(rf"\b{name}\b", said) for name in programs), f"of {programs} the package says\n{said}")
     pages = {path.name for path in root.rglob("*.gz")}
     wanted = {f"{name}.1.gz" for name in ("dsa", "dsa_jobs", "dsa_text", "dsa_trace", "dsa_prices")}
     expect(pages == wanted | {"dsa_planner.3.gz", "dsa_queue.3.gz"}, f"the Debian package has the pages {pages}")
@@ -286,6 +293,9 @@ def device():
     strict = ["-std=c11", "-D_GNU_SOURCE", *STRICT[:2], "-Werror", "-O1"]
     tried("the build of ordered", "cc", *strict, ROOT / "tests/trace/ordered.c", "-o", "ordered")
     trace, prices = f"{PREFIX}/bin/dsa_trace", f"{PREFIX}/bin/dsa_prices"
+    for name, option in itertools.product(("dsa_trace", "dsa_prices", "dsa_text"), ("--version", "-V")):
+        wanted = f"{name} {'.'.join(map(str, make.version()))}\n"
+        tried(f"{name} {option}", f"{PREFIX}/bin/{name}", option, printed=wanted)
     tried("dsa_trace --audit", trace, "--audit", "--seeds", 5, "--", "./ordered", "fenced")
     refused("a missing fence", ["missing fence, read after write"], trace, "--audit", "--", "./ordered", "fence")
     tried("the build of the example", "cc", "-O2", "-mmovdir64b", EXAMPLES / "trace/copy_twice.c", "-o", "copy_twice")

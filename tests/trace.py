@@ -423,8 +423,11 @@ def options():
                        (["--order", "x"], "fifo, members, data or all"), (["--queue", "shared,0,x"], "from 1 to 128")):
         told(f"the options {words}", traced(*words, *(["--", "true"] if words else [])), 125, why)
     told("a value after =", traced("--seed=7", "--order=all", "true"), 0)
-    names = re.findall(r"^ +(?:-h, )?(--[a-z-]+)", end.stdout, re.M)
-    expect(len(names) == 27, f"--help names {names}")
+    bare = traced()
+    wanted = "dsa_trace: the program to run is missing (see dsa_trace --help)\n"
+    expect(bare.stderr == wanted, f"without a program is said {bare.stderr}")
+    names = re.findall(r"^ +(?:-[hV], )?(--[a-z-]+)", end.stdout, re.M)
+    expect(len(names) == 28, f"--help names {names}")
     page = Path("bindings/package/dsa_trace.1").read_text().replace("\\-", "-")
     completion = Path("bindings/package/dsa_trace.bash").read_text()
     missing = [name for name in names if name not in page or name not in completion]

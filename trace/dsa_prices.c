@@ -32,7 +32,8 @@ static const char help[] =
     "      --options             print options of dsa_text and not settings as JSON\n"
     "      --greatest-batch <N>  the largest batch to measure, 2 to 1024 [default: that of the queue]\n"
     "      --times <N>           how often each is measured [default: 1000]\n"
-    "  -h, --help                print this\n";
+    "  -h, --help                print this\n"
+    "  -V, --version             print the version\n";
 
 struct asked { const char *queue; bool options; unsigned greatest, times; };
 
@@ -71,6 +72,9 @@ static struct asked ask(char **word)
     for (word++; *word; word++)
         if (strcmp(*word, "--help") == 0 || strcmp(*word, "-h") == 0) {
             fputs(help, stdout);
+            exit(0);
+        } else if (strcmp(*word, "--version") == 0 || strcmp(*word, "-V") == 0) {
+            puts("dsa_prices " VERSION);
             exit(0);
         } else if (strcmp(*word, "--options") == 0)
             a.options = true;

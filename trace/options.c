@@ -48,6 +48,7 @@ static const char help[] =
     "      --no-wait        do not wait for processes that the program leaves in the background\n"
     "      --verbose        a line of counts at the end of each process\n"
     "  -h, --help           print this\n"
+    "  -V, --version        print the version\n"
     "\n"
     "Examples:\n"
     "  dsa_trace --audit --seeds 20 -- ./my_test\n"
@@ -57,8 +58,16 @@ static void refuse(const char *why, const char *word) __attribute__((noreturn));
 
 static void refuse(const char *why, const char *word)
 {
-    fprintf(stderr, "dsa_trace: %s: %s (see dsa_trace --help)\n", word, why);
+    fprintf(stderr, "dsa_trace: %s%s%s (see dsa_trace --help)\n", word, *word ? ": " : "", why);
     exit(FAILED);
+}
+
+static void print_and_end(const char *text) __attribute__((noreturn));
+
+static void print_and_end(const char *text)
+{
+    fputs(text, stdout);
+    exit(0);
 }
 
 static uint64_t number_of(const char *option, const char *text)
@@ -183,10 +192,10 @@ void options_read(char **words, struct options *o)
     for (; *word && **word == '-' && strcmp(*word, "--"); word++) {
         const char *equals = strchr(*word, '=');
         snprintf(name, sizeof name, "%.*s", equals ? (int)(equals - *word) : (int)strlen(*word), *word);
-        if (strcmp(name, "--help") == 0 || strcmp(name, "-h") == 0) {
-            fputs(help, stdout);
-            exit(0);
-        }
+        if (strcmp(name, "--help") == 0 || strcmp(name, "-h") == 0)
+            print_and_end(help);
+        if (strcmp(name, "--version") == 0 || strcmp(name, "-V") == 0)
+            print_and_end("dsa_trace " VERSION "\n");
         if (take_flag(o, name))
             continue;
         const char *value = equals ? equals + 1 : word[1];
@@ -196,7 +205,7 @@ void options_read(char **words, struct options *o)
     o->program = *word && strcmp(*word, "--") == 0 ? word + 1 : word;
     o->audits |= o->report != NULL;
     if (!*o->program && !o->report)
-        refuse("the program to run is missing", words[0]);
+        refuse("the program to run is missing", "");
     if (*o->program && !**o->program)
         refuse("the program to run has no name", "''");
     if (*o->program && o->report)

@@ -28,7 +28,7 @@ _dsa_trace()
             if [[ $word == -* ]]; then
                 COMPREPLY=($(compgen -W "--accept --audit --await --cpuid --delay --deny --fault --help --json
                     --junit --no-namespace --no-wait --no-watch --order --out --queue --report --resident --retry
-                    --seed --seeds --signals --stacks --timeout --verbose --watch --write-accept" -- "$word"))
+                    --seed --seeds --signals --stacks --timeout --verbose --version --watch --write-accept" -- "$word"))
             else
                 COMPREPLY=($(compgen -c -- "$word"))
             fi

@@ -48,10 +48,12 @@ EXAMPLES = ("job", "c", "py", "txt", "svg", "xxd", "events")
 ANYWHERE = {"prefix": "${pcfiledir}/../..", "lib": "lib", "python": "share/dsa-planner/python"}
 DEBIAN = {"prefix": "/usr", "lib": "lib/x86_64-linux-gnu", "python": "lib/python3/dist-packages"}
 # Before dpkg removes the Python modules: what Python has compiled of them.
-PRERM = """#!/bin/sh
+PRERM = f"""#!/bin/sh
 set -e
 compiled="$DPKG_ROOT"/usr/lib/python3/dist-packages/__pycache__
-rm -f "$compiled"/dsa_planner.*.pyc "$compiled"/dsa_queue.*.pyc
+for module in {' '.join(MODULES)}; do
+    rm -f "$compiled/$module".*.pyc
+done
 rmdir "$compiled" 2>/dev/null || true
 """
 

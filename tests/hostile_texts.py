@@ -5,7 +5,8 @@ import resource
 import subprocess
 
 MIB = 2**20
-LENGTH = 32 * MIB
+# A little past a power of two, at which buffers that double have most in reserve.
+LENGTH = 33 * MIB
 # The program, its libraries and its stack, and what buffers that double have in reserve: address space, of which most is
 # never touched.
 ROOM = 40 * MIB
@@ -47,6 +48,13 @@ def falling():
     return '{"do":"plan","list":"",' + SETTINGS + "," + ",".join(f'"{count - k:08}":0' for k in range(count)) + "}"
 
 
+def long_name_after_list():
+    """A list of a tenth of the text, and settings with a member whose name is the rest."""
+    digits = "0" * (LENGTH // 20 * 2)
+    name = "x" * (LENGTH - len(digits) - 200)
+    return f'{{"do":"plan","list":"{digits}",{SETTINGS[:-1]},"{name}":0}}}}'
+
+
 # name: the text, the most bytes for each of its bytes, the number of the refusal
 TEXTS = {
     "small objects": lambda: (filled("[", '{"":0}', "]"), 3, 81),
@@ -54,6 +62,7 @@ TEXTS = {
     "other members of a job": lambda: (filled('{"do":"plan","list":"",' + SETTINGS + ",", '"member":0', "}"), 3, 81),
     "names that fall": lambda: (falling(), 3, 81),
     "a long name": lambda: ('{"do":"plan","list":"",' + SETTINGS + ',"' + "x" * (LENGTH - 200) + '":0}', 3, 81),
+    "a long name after a list": lambda: (long_name_after_list(), 3, 81),
     "settings of other names": lambda: (filled('{"do":"plan","list":"","settings":{', '"member":0', "}}"), 3, 81),
     "bytes of other digits": lambda: ('{"do":"plan",' + SETTINGS + ',"list":"' + "x" * (LENGTH - 200) + '"}', 3, 84),
     "names again and again": lambda: (filled("{", '"do":"run"', "}"), 3, 81),

@@ -226,8 +226,10 @@ def denied():
     for words, status in [("guarding", 1), ("signalling", 1), ("guarding,signalling", 1), ("needless,unseen", 0)]:
         common.expect(audit(recording, f"--deny {words}").returncode == status, f"--deny {words}: not {status}")
     recording = CASES["plain"][0]
-    for words, status in [("guarding", 0), ("signalling", 1), ("needless", 0)]:
+    for words, status in [("guarding", 0), ("signalling", 1), ("needless", 0), ("nothing", 0)]:
         common.expect(audit(recording, f"--deny {words}").returncode == status, f"--deny {words}: not {status}")
+    for words, status in [("needless,unseen", 0), ("nothing", 1), ("needless,nothing --json", 1), ("nothing --list", 0)]:
+        common.expect(audit(b"", f"--deny {words}").returncode == status, f"--deny {words} of nothing: not {status}")
 
 
 def words():
@@ -237,7 +239,7 @@ def words():
         ("--await signals,batches", "error: --await takes writes, signals or batches\n"),
         (
             "--deny missing",
-            "error: --deny takes needless, guarding, signalling, unseen, waits and stale, with commas between\n",
+            "error: --deny takes needless, guarding, signalling, unseen, waits, stale and nothing, with commas between\n",
         ),
     ]:
         ran = audit(CASES["plain"][0], options)

@@ -309,7 +309,7 @@ def files():
             common.expect(got == (2, "", wanted), f"{words} with two files: {got}")
         got = answered(["-", one, "-"])
         common.expect(got == (2, "", "error: standard input (-) can be named once\n"), f"- twice: {got}")
-        got = answered(["--deny", "nothing", one, one])
+        got = answered(["--deny", "fences", one, one])
         common.expect((got[0], got[1], got[2].count("\n")) == (2, "", 1), f"a word of no option: {got}")
 
 

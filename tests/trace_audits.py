@@ -149,7 +149,7 @@ def passed_on():
     wanted = [re.escape(words) + "--resident -", re.escape(words) + r"--events \S+ --resident \S+"]
     right = len(lines) == 2 and all(re.fullmatch(pattern, line) for pattern, line in zip(wanted, lines))
     expect(right, f"dsa_text gets {lines}")
-    for words in (["--await", "nothing"], ["--deny", "nothing"], ["--accept", "/nowhere"]):
+    for words in (["--await", "nothing"], ["--deny", "fences"], ["--accept", "/nowhere"]):
         end = audited(*words, "--", "sh", "-c", "echo run")
         told(f"{words}", end, 125, "does not audit with these options")
         expect("run\n" not in end.stdout, f"with {words} the program is run")

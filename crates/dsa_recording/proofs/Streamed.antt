@@ -1,10 +1,11 @@
 -- What the parts of a recording come to, part by part.
-use Rattle.std.proofs.Common.{◌≡◌, ◌≢◌, ℕ, ◌+◌, inl, inr, true, false, List, [], ◌∷◌, ◌++◌, Option, Some, None, length, map, is_some, take, drop, take-append-drop, refl, sym, ap, subst, ◌∙◌, arith, length-append, append-nil, append_assoc}
+use Rattle.std.proofs.Common.{◌≡◌, ◌≢◌, ◌≤◌, ◌/◌, ℕ, ◌+◌, inl, inr, true, false, List, [], ◌∷◌, ◌++◌, Option, Some, None, length, map, is_some, take, drop, take-append-drop, refl, sym, ap, subst, ◌∙◌, arith, length-append, append-nil, append_assoc}
 use Rattle.std.proofs.KnownBytes.{Consumes-trans}
 use Rattle.std.proofs.Math.Seq.{take-append_seam}
 use Rattle.std.specs.Io.KnownBytes.{Consumes}
 use Rattle.std.specs.Prelude.{Result, Ok, Err, OnOk}
 use Rattle.dsa_descriptor.specs.Lists.{entries}
+use Rattle.dsa_descriptor.proofs.Entries.{length-chunks}
 use Rattle.dsa_recording.specs.declared.accepted.Accepted.{Accepted}
 use Rattle.dsa_recording.specs.declared.answer.AuditAnswer.{AuditAnswer}
 use Rattle.dsa_recording.specs.declared.answer.AuditOptions.{AuditOptions}
@@ -92,6 +93,21 @@ faulted o options bytes last status used fault answer so_far unlike is refused =
 text_front : (xs ys : List ℕ) → IsText (xs ++ ys) → IsText xs
 text_front [] ys text = tt
 text_front (x ∷ xs) ys (here, text) = (here, text_front xs ys text)
+
+-- bytes of an entry have one
+has_entry : (bytes : List ℕ) → 64 ≤ length bytes → entries bytes ≢ []
+has_entry bytes long none =
+    let count : length (entries bytes) ≡ length bytes / 64 = length-chunks (length bytes / 64) bytes in
+    let no : length (entries bytes) ≡ 0 = ap length none in
+    omega (arith, count, no, long)
+
+-- the parts and the last of the buffer have an entry, if what was read first has
+pub some_entry : (first bytes more buffer last : List ℕ) → 64 ≤ length first → first ++ more ≡ bytes ++ buffer → last ≡ buffer
+    → entries (bytes ++ last) ≢ []
+some_entry first bytes more buffer last long whole is =
+    let same : first ++ more ≡ bytes ++ last = whole ∙ ap (λ (l : List ℕ). bytes ++ l) (sym is) in
+    let enough : 64 ≤ length (first ++ more) = omega (arith, length-append first more, long) in
+    has_entry (bytes ++ last) (subst (λ (l : List ℕ). 64 ≤ length l) same enough)
 
 -- the answer to the parts and the last of the buffer is that of all that was read
 pub answered : (options : AuditOptions) (first bytes more buffer last : List ℕ) (a : AuditAnswer) → ¬ IsText first → first ++ more ≡ bytes ++ buffer → last ≡ buffer

@@ -1,5 +1,5 @@
 -- What the answer of `audit` says.
-use Rattle.std.specs.Prelude.{ℕ, ◌≡◌, ◌<◌, ◌⊎◌, true, false, List, length, string_bytes}
+use Rattle.std.specs.Prelude.{ℕ, ◌≡◌, ◌<◌, ◌⊎◌, true, false, List, [], length, string_bytes}
 use Rattle.std.specs.List.{AllByRecursion}
 use Rattle.dsa_descriptor.specs.Lists.{entries}
 use Rattle.dsa_drawing.specs.Pictures.{IsPicture}
@@ -36,6 +36,15 @@ IsStatusOf options es r status =
 abbrev pub HasNoPicture : List (List ℕ) → Reported → Type 0
 HasNoPicture es r = (1024 < length r.submissions) ⊎ (65536 < length es)
 
+-- there are no entries, and that is denied
+abbrev pub IsDeniedNothing : AuditOptions → List (List ℕ) → Type 0
+IsDeniedNothing options es = (options.denied.nothing ≡ true) × (es ≡ [])
+
+-- the status of an answer: that of what was found; but 1 if there are no entries and that is denied
+abbrev pub IsAnswerStatus : AuditOptions → List (List ℕ) → Reported → ℕ → Type 0
+IsAnswerStatus options es r status =
+    (IsDeniedNothing options es × (status ≡ 1)) ⊎ ((¬ IsDeniedNothing options es) × IsStatusOf options es r status)
+
 -- no key is used
 abbrev pub UsesNone : AuditAnswer → Type 0
 UsesNone answer = (key : List ℕ) → has_key answer.used key ≡ false
@@ -45,9 +54,9 @@ pub record Refuses (answer : AuditAnswer) : Type 0 where
   pub status : answer.status ≡ 2
   pub used : UsesNone answer
 
--- the answer has the status of the findings, and the keys that are used
+-- the answer has its status, and the keys that are used
 pub record Judges (options : AuditOptions) (es : List (List ℕ)) (r : Reported) (answer : AuditAnswer) : Type 0 where
-  pub status : IsStatusOf options es r answer.status
+  pub status : IsAnswerStatus options es r answer.status
   pub used : AreUsed options es r answer.used
 
 -- the answer is a picture of the report, with the status of the findings

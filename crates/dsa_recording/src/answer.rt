@@ -3,7 +3,7 @@
 ghost use Rattle.dsa_recording.specs.declared.answer.AuditFormat.TheVariants.{Picture, List as Listed};
 ghost use Rattle.std.specs.Prelude.{◌≡◌, ◌≢◌, ◌≤◌, ◌^◌, ◌↔◌, All, length, IfOk, IsTrue};
 ghost use Rattle.dsa_recording.specs.declared.stream.StreamFault.TheVariants.{Memory};
-ghost use Rattle.dsa_recording.specs.Answers.{AnswersFormat, AnswersRecording, AnswersReport, AreNoErrors, ArePlaced, IsNoError, IsStatusOf, Judges};
+ghost use Rattle.dsa_recording.specs.Answers.{AnswersFormat, AnswersRecording, AnswersReport, AreNoErrors, ArePlaced, IsAnswerStatus, IsDeniedNothing, IsNoError, IsStatusOf, Judges};
 ghost use Rattle.dsa_recording.specs.Freed.{HasAudits};
 ghost use Rattle.dsa_recording.specs.Details.{IsPlaced};
 ghost use Rattle.dsa_recording.specs.Keys.{key_words};
@@ -69,7 +69,7 @@ pub struct AuditAnswer {
     /// The report, or why there is none.
     pub text: String,
     /// 0 if nothing is an error, 1 if something is: a missing fence, a fence, record or batch that is wrong, or what is
-    /// denied; 2 if there is no recording or it is too large for a picture. Of a list it is 0 or 2.
+    /// denied, as an empty recording; 2 if there is no recording or it is too large for a picture. Of a list it is 0 or 2.
     pub status: u8,
     /// The accepted keys that are used; of a refusal, of a picture that is too large and of a list none.
     pub used: Accepted,
@@ -176,7 +176,30 @@ fn report_text(
     written.into_text(alloc, settings, options)
 }
 
-/// The answer of a report in this text, with status 1 if some finding is an error.
+/// Whether there are no entries, and that is denied.
+fn is_denied_nothing(options: AuditOptions<'_>, all: &[[u8; 64]]) -> bool
+    ensures { IsTrue result ↔ IsDeniedNothing options.entry all.now }
+{
+    options.denied.nothing && all.is_empty()
+}
+
+/// The status of the answer of a report: whether something is an error.
+fn answer_status(
+    alloc: Global,
+    options: AuditOptions<'_>,
+    all: &[[u8; 64]],
+    report: &Report,
+) -> Result<u8, AllocError>
+    requires { ArePlaced all.now (reported_by report.now) }
+    ensures { IfOk result (IsAnswerStatus options.entry all.now (reported_by report.now)) }
+{
+    if is_denied_nothing(options, all) {
+        return Ok(1);
+    }
+    status_of(alloc, options, all, report)
+}
+
+/// The answer of a report in this text, with status 1 if something is an error.
 fn written(
     alloc: Global,
     options: AuditOptions<'_>,
@@ -190,7 +213,7 @@ fn written(
     ensures text { IfOk result (λ answer. answer.text ≡ text) }
     ensures judges { IfOk result (Judges options.entry all.now (reported_by report.now)) }
 {
-    let status = status_of(alloc, options, all, report)?;
+    let status = answer_status(alloc, options, all, report)?;
     let used = used_in(alloc, options, all, report)?;
     Ok(AuditAnswer { text, status, used })
 }

@@ -1,6 +1,7 @@
 //! The report on a recording that comes in parts, each of whole submissions.
 
-ghost use Rattle.std.specs.Prelude.{◌≡◌, ◌++◌, ◌≤◌, ℕ, List, [], IfOk, OnOk, length};
+ghost use Rattle.std.specs.Prelude.{◌≡◌, ◌≢◌, ◌++◌, ◌≤◌, ℕ, List, [], IfOk, OnOk, length};
+ghost use Rattle.dsa_descriptor.specs.Lists.{entries};
 ghost use Rattle.dsa_recording.specs.Foreign.{AnswersEntries};
 ghost use Rattle.dsa_recording.specs.declared.answer.AuditOptions.{AuditOptions};
 ghost use Rattle.dsa_recording.specs.declared.stream.Submission.{Submission};
@@ -128,7 +129,7 @@ impl Parts {
         }
     }
 
-    /// The answer of a recording whose parts these are.
+    /// The answer of a recording whose parts these are, with some entry.
     fn answer(
         self,
         alloc: Global,
@@ -136,7 +137,7 @@ impl Parts {
         options: AuditOptions<'_>,
     ) -> Result<AuditAnswer, AllocError>
         requires { IsStreamed options.format }
-        ensures { IfOk result (λ answer. (bytes : List ℕ) →
+        ensures { IfOk result (λ answer. (bytes : List ℕ) → entries bytes ≢ [] →
             IsSoFar options.entry bytes self → AnswersEntries options.entry bytes answer) }
     {
         match self.foreign {
@@ -157,7 +158,8 @@ impl Parts {
         }
     }
 
-    /// The answer of a recording whose parts are these and this last one, which may end within a submission.
+    /// The answer of a recording whose parts are these and this last one, which may end within a submission. Some of them
+    /// has an entry.
     pub(crate) fn answer_with(
         self,
         alloc: Global,
@@ -166,7 +168,8 @@ impl Parts {
         options: AuditOptions<'_>,
     ) -> Result<AuditAnswer, AllocError>
         requires { IsStreamed options.format }
-        ensures { IfOk result (λ answer. (bytes : List ℕ) → IsSoFar options.entry bytes self →
+        ensures { IfOk result (λ answer. (bytes : List ℕ) → entries (bytes ++ last.now) ≢ [] →
+            IsSoFar options.entry bytes self →
             AnswersEntries options.entry (bytes ++ last.now) answer) }
     {
         match read_stream(alloc, last) {

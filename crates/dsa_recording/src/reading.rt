@@ -72,7 +72,8 @@ fn is_streamed(format: AuditFormat) -> bool
     }
 }
 
-/// The answer to a recording of bytes that begins with these, and after them has what the reader gives.
+/// The answer to a recording of bytes that begins with these, some entry among them, and after them has what the reader
+/// gives.
 fn audit_parts<R: Read>(
     alloc: Global,
     reader: &mut R,
@@ -82,6 +83,7 @@ fn audit_parts<R: Read>(
 ) -> Result<AuditAnswer, ReadFault>
     requires format { IsStreamed options.format }
     requires bytes { ¬ IsText first.items }
+    requires some { 64 ≤ length first.items }
     ensures { AnswersAfter options.entry first.items
         (R.remaining reader.old) (R.remaining reader.new) result }
 {

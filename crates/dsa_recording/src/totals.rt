@@ -178,16 +178,18 @@ pub fn totals_text(alloc: Global, totals: &Totals) -> Result<String, AllocError>
     Ok(text)
 }
 
-/// The line that nothing was submitted, if no descriptor was: that of a batch without members is one.
-pub(crate) fn nothing_text(alloc: Global, totals: &Totals) -> Result<String, AllocError> {
-    String::from_str(
-        alloc,
-        if totals.batches == 0 && totals.lone == 0 {
-            "nothing to audit: no descriptor was submitted\n"
-        } else {
-            ""
-        },
-    )
+/// The line that nothing was submitted, if no descriptor was: that of a batch without members is one. It is an error if
+/// that is denied.
+pub(crate) fn nothing_text(
+    alloc: Global,
+    totals: &Totals,
+    is_denied: bool,
+) -> Result<String, AllocError> {
+    if totals.batches > 0 || totals.lone > 0 {
+        return Ok(String::new(alloc));
+    }
+    let severity = if is_denied { "error: " } else { "" };
+    format!(in alloc; "{severity}nothing to audit: no descriptor was submitted\n")
 }
 
 /// The line of the flaws beside fences, if there are any.

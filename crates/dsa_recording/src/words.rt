@@ -28,7 +28,7 @@ pub enum Severity {
     Accepted,
 }
 
-/// The notes and warnings that count as errors too.
+/// What counts as an error too.
 #[derive(Clone, Copy)]
 pub struct Denied {
     /// Needless fences.
@@ -39,6 +39,8 @@ pub struct Denied {
     pub signalling: bool,
     /// Members that are not looked at.
     pub unseen: bool,
+    /// Recordings of no descriptor.
+    pub nothing: bool,
 }
 
 /// How severe a finding is that may be left as it is, unless it is denied.

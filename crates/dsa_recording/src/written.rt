@@ -238,7 +238,7 @@ impl Written {
             push_alike(alloc, &mut text, finding.alike)?;
         }
         let (totals, lacks) = (self.sums.totals, self.sums.lacks);
-        text.push_str(&nothing_text(alloc, &totals)?)?;
+        text.push_str(&nothing_text(alloc, &totals, options.denied.nothing)?)?;
         text.push_str(&totals_text(alloc, &totals)?)?;
         text.push_str(&flaws_text(alloc, totals.flaws)?)?;
         text.push_str(&costs_text(alloc, settings, &self.sums.costs, &totals, lacks)?)?;

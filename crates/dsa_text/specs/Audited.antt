@@ -33,6 +33,7 @@ abbrev pub findings_named : List (List ℕ) → ℕ
 findings_named words =
     times_named (codes "needless") words + times_named (codes "guarding") words + times_named (codes "signalling") words
     + times_named (codes "unseen") words + times_named (codes "waits") words + times_named (codes "stale") words
+    + times_named (codes "nothing") words
 
 -- the findings that words name, if each word names some; missing waits are always errors
 abbrev pub denied_by : List (List ℕ) → Option Denied
@@ -43,12 +44,13 @@ denied_by words =
       guarding = nat_lt 0 (times_named (codes "guarding") words);
       signalling = nat_lt 0 (times_named (codes "signalling") words);
       unseen = nat_lt 0 (times_named (codes "unseen") words);
+      nothing = nat_lt 0 (times_named (codes "nothing") words);
     })
     else None
 
 -- the findings of the option's value, names with commas between; no finding without the option
 abbrev pub denied_of : Option (List ℕ) → Option Denied
-denied_of None = Some (record { needless = false; guarding = false; signalling = false; unseen = false })
+denied_of None = Some (record { needless = false; guarding = false; signalling = false; unseen = false; nothing = false })
 denied_of (Some names) = denied_by (slice_split (λ c. c == 44) names)
 
 -- the findings that the option `deny` names

@@ -44,8 +44,8 @@ at the batch's list address. --staging may be given more than once.
 
 With --list it writes the operations of the recording as lines that explain reads, which says what their least plan costs:
   dsa_text audit --list recording.bin > list.txt && dsa_text explain --greatest-transfer 2048M list.txt
-A member without a line is named in a comment: the plan knows nothing of it. A fence that guards or
-signals is a line barrier, which the plan keeps. The list is for prices, not for submission.
+A member without a line is named in a comment: the plan knows nothing of it. A fence that guards or signals, and that no
+conflict needs, is a line barrier, which the plan keeps. The list is for prices, not for submission.
 
 No conflict needs a fence that guards or signals. A guarding one is the first after a member that can fail: that does
 not block on a fault (but a no-op), checks a result, applies a delta, is an operation on DIF, a translation fetch or a
@@ -76,6 +76,7 @@ Several files are audited in their order, each by itself; the last line has how 
 
 The status is 0 if nothing is an error, 1 if something is: a missing fence or wait, a fence, record or batch that is
 wrong, or what --deny names; and 2 if there is no recording, or it is too large to draw. Of a list it is 0 or 2.
+--deny nothing makes an error of each file in which nothing was submitted.
 Prices are in one unit of your choice. Numbers are decimal, or hexadecimal after 0x.
 Example: dsa_text audit --deny needless,unseen recording.bin";
 
@@ -95,7 +96,7 @@ fn deny<'a>(alloc: Global) -> Arg<'a> {
         .value_name("KIND,..")
         .action(ArgAction::Set)
         .help(
-            "what counts as an error too: needless, guarding, signalling, unseen, stale; waits always do",
+            "what counts as an error too: needless, guarding, signalling, unseen, stale, nothing; waits always do",
         )
 }
 
@@ -243,12 +244,14 @@ fn denied_by(words: &[&str]) -> Option<Denied>
     let unseen = times_named("unseen", words);
     let waits = times_named("waits", words);
     let stale = times_named("stale", words);
+    let nothing = times_named("nothing", words);
     let named = needless as u128
         + guarding as u128
         + signalling as u128
         + unseen as u128
         + waits as u128
-        + stale as u128;
+        + stale as u128
+        + nothing as u128;
     if named != words.len() as u128 {
         return None;
     }
@@ -257,6 +260,7 @@ fn denied_by(words: &[&str]) -> Option<Denied>
         guarding: guarding > 0,
         signalling: signalling > 0,
         unseen: unseen > 0,
+        nothing: nothing > 0,
     })
 }
 
@@ -270,6 +274,7 @@ fn denied_in(alloc: Global, matches: &ArgMatches<'_>) -> Result<Option<Denied>, 
             guarding: false,
             signalling: false,
             unseen: false,
+            nothing: false,
         })),
         Some(names) => Ok(denied_by(&parts_of(alloc, names)?)),
     }
@@ -438,7 +443,7 @@ pub(crate) fn options_in<'a>(
 {
     let Some(denied) = denied_in(alloc, matches)? else {
         let reason =
-            "error: --deny takes needless, guarding, signalling, unseen, waits and stale, with commas between\n";
+            "error: --deny takes needless, guarding, signalling, unseen, waits, stale and nothing, with commas between\n";
         return Ok(Err(refusal(alloc, String::from_str(alloc, reason)?)));
     };
     match awaited_in(matches) {

@@ -27,6 +27,7 @@ fn list_recording(
         guarding: false,
         signalling: false,
         unseen: false,
+        nothing: false,
     };
     let assumptions = Assumptions {
         awaited: Await::Writes,

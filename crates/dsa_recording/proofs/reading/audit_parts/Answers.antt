@@ -2,7 +2,7 @@ use Rattle.std.proofs.Common.{[], append-nil, refl, sym, ◌∙◌}
 use Rattle.std.proofs.lemmas.Bool.{true≢false}
 use Rattle.std.proofs.lemmas.List.{take_rest}
 use Rattle.std.proofs.KnownBytes.{Consumes-nil, Consumes-trans}
-use Rattle.dsa_recording.proofs.Streamed.{answered, read_on}
+use Rattle.dsa_recording.proofs.Streamed.{answered, read_on, some_entry}
 use Rattle.dsa_recording.proofs.reading.audit_parts.Goals as goal
 
 pub loop-init : goal.loop-init
@@ -18,7 +18,8 @@ returns-then-ended g c =
       read.2,
       c.loop.invariant.end c.if-ended.true,
       answered c.args.options c.args.first.items read.0 read.1 c.loop.buffer.items c.deref.result.now c.in_ok-answer_with.field-0 c.requires.bytes read.3 c.deref.ensures.value
-          (c.in_ok-answer_with.ensures read.0 read.4),
+          (c.in_ok-answer_with.ensures read.0
+          (some_entry c.args.first.items read.0 read.1 c.loop.buffer.items c.deref.result.now c.requires.some read.3 c.deref.ensures.value) read.4),
     )
 
 pub loop-preserved : goal.loop-preserved

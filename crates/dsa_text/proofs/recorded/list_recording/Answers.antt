@@ -18,7 +18,7 @@ returns c =
     (record {
       format = Listed;
       every = false;
-      denied = record { needless = false; guarding = false; signalling = false; unseen = false };
+      denied = record { needless = false; guarding = false; signalling = false; unseen = false; nothing = false };
       accepted = record { ref_ptr = c.args.settings.ref_ptr; now = c.none-accepted.result };
       assumptions = record { awaited = Writes; resident = false };
     }) c.audit_entries.ensures

@@ -9,8 +9,8 @@ use Rattle.dsa_lines.specs.Recordings.{IsRecordingFault}
 use Rattle.dsa_lines.proofs.RecordingLemmas.{spells_none, one_spelled}
 use Rattle.dsa_recording.specs.declared.answer.AuditAnswer.{AuditAnswer}
 use Rattle.dsa_recording.specs.declared.answer.AuditOptions.{AuditOptions}
-use Rattle.dsa_recording.specs.declared.forms.Form.{Form}
-use Rattle.dsa_recording.specs.Forms.{IsText, SpellsBytes, SpellsNone, form_of, digits_of}
+use Rattle.dsa_forms.specs.declared.forms.Form.{Form}
+use Rattle.dsa_forms.specs.Forms.{IsText, SpellsBytes, SpellsNone, form_of, digits_of}
 use Rattle.dsa_recording.specs.Foreign.{AnswersEntries}
 use Rattle.dsa_recording.specs.Inputs.{IsInLines, SpellsRecording, OneRecording, AnswersInput}
 use Rattle.dsa_recording.specs.Inputs.SpellsRecording.{as_it_stands, in_lines, in_digits}

@@ -11,7 +11,6 @@ pub mod Pushed
 pub mod Reaudited
 pub mod Within
 pub mod Placed
-pub mod Spelled
 pub mod Found
 pub mod Status
 pub mod Summed
@@ -19,7 +18,6 @@ pub mod Inputs
 mod Accepting
 pub mod Keyed
 mod Sharing
-pub mod Begun
 pub mod Priced
 pub mod StreamOf
 pub mod ListingLines

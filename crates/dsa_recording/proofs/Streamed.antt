@@ -14,7 +14,7 @@ use Rattle.dsa_recording.specs.declared.stream.StreamFault.{StreamFault}
 use Rattle.dsa_recording.specs.declared.stream.StreamFault.TheVariants.{Length, CutOff, Memory}
 use Rattle.dsa_recording.specs.declared.stream.Submission.{Submission}
 use Rattle.dsa_recording.specs.Answers.{Refuses}
-use Rattle.dsa_recording.specs.Forms.{IsText}
+use Rattle.dsa_forms.specs.Forms.{IsText}
 use Rattle.dsa_recording.specs.Inputs.{AnswersInput}
 use Rattle.dsa_recording.specs.Inputs.SpellsRecording.{as_it_stands}
 use Rattle.dsa_recording.specs.Foreign.{AnswersEntries, HasOwnMembers, LacksMembers}

@@ -5,7 +5,7 @@ use Rattle.dsa_lines.specs.Recordings.{LinesSpell}
 use Rattle.dsa_recording.specs.declared.answer.AuditAnswer.{AuditAnswer}
 use Rattle.dsa_recording.specs.declared.answer.AuditOptions.{AuditOptions}
 use Rattle.dsa_recording.specs.Answers.{Refuses}
-use Rattle.dsa_recording.specs.Forms.{IsText, SpellsBytes, begins_with_digits, form_of}
+use Rattle.dsa_forms.specs.Forms.{IsText, SpellsBytes, begins_with_digits, form_of}
 use Rattle.dsa_recording.specs.Foreign.{AnswersEntries}
 
 -- the input is in lines: a text that has none of the forms of digits, and its first word has other characters

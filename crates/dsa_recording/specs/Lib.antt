@@ -12,8 +12,6 @@ pub mod Findings
 pub mod Reports
 pub mod Overlaps
 pub mod Details
-pub mod Forms
-pub mod Kinds
 pub mod Words
 pub mod Keys
 pub mod Accepted

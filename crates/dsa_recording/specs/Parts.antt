@@ -13,7 +13,7 @@ use Rattle.dsa_recording.specs.declared.reading.ReadFault.{ReadFault}
 use Rattle.dsa_recording.specs.declared.reading.ReadFault.TheVariants.{Failed, TooLong, Memory}
 use Rattle.dsa_recording.specs.Answers.{IsStatusOf}
 use Rattle.dsa_recording.specs.Foreign.{HasOwnMembers, LacksMembers}
-use Rattle.dsa_recording.specs.Forms.{IsText}
+use Rattle.dsa_forms.specs.Forms.{IsText}
 use Rattle.dsa_recording.specs.Inputs.{AnswersInput}
 use Rattle.dsa_recording.specs.Pairs.{terms}
 use Rattle.dsa_recording.specs.Reports.{IsReport, Reported}

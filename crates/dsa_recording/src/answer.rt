@@ -69,7 +69,8 @@ pub struct AuditAnswer {
     /// The report, or why there is none.
     pub text: String,
     /// 0 if nothing is an error, 1 if something is: a missing fence, a fence, record or batch that is wrong, or what is
-    /// denied, as an empty recording; 2 if there is no recording or it is too large for a picture. Of a list it is 0 or 2.
+    /// denied, as an empty recording; 2 if there is no recording, or it is too large for a picture. Of a list it is 0
+    /// or 2.
     pub status: u8,
     /// The accepted keys that are used; of a refusal, of a picture that is too large and of a list none.
     pub used: Accepted,

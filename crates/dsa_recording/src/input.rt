@@ -4,14 +4,13 @@ ghost use Rattle.std.specs.Prelude.{◌≡◌, IfOk, MatchResult};
 ghost use Rattle.dsa_lines.specs.Texts.{lines_of};
 ghost use Rattle.dsa_recording.specs.Answers.{Refuses};
 ghost use Rattle.dsa_recording.specs.Foreign.{AnswersEntries};
-ghost use Rattle.dsa_recording.specs.Forms.{IsText};
+ghost use Rattle.dsa_forms.specs.Forms.{IsText};
 ghost use Rattle.dsa_recording.specs.Inputs.{AnswersInput, IsInLines, IsRefused, OneRecording, SpellsRecording};
 
 use crate::accepted::Accepted;
 use crate::answer::{AuditAnswer, AuditOptions, audit_bytes};
 use crate::foreign::{find_foreign, foreign_text};
-use crate::forms::{begins_with_digits, form_of, is_text};
-use crate::places::{BytesFault, bytes_of_input};
+use dsa_forms::{BytesFault, begins_with_digits, bytes_of_input, form_of, is_text};
 use dsa_lines::{Expected, TextFault, assemble_recording};
 use dsa_settings::Settings;
 use std::alloc::{AllocError, Global};

@@ -123,7 +123,8 @@ fn expects_bit(op: Op) -> bool
 
 /// Writes that the result is checked, if it is.
 fn push_check(line: &mut String, is_checked: bool) -> Result<(), AllocError>
-    ensures { OnOk result (string_bytes line.new ≡ string_bytes line.old ++ check_words is_checked) }
+    ensures { OnOk result
+        (string_bytes line.new ≡ string_bytes line.old ++ check_words is_checked) }
 {
     if !is_checked {
         return Ok(());

@@ -129,7 +129,7 @@ impl Parts {
         }
     }
 
-    /// The answer of a recording whose parts these are, with some entry.
+    /// The answer of a recording whose parts these are, and which has an entry.
     fn answer(
         self,
         alloc: Global,
@@ -158,8 +158,8 @@ impl Parts {
         }
     }
 
-    /// The answer of a recording whose parts are these and this last one, which may end within a submission. Some of them
-    /// has an entry.
+    /// The answer of a recording whose parts are these and this last one, which may end within a submission. There is
+    /// an entry in some of them.
     pub(crate) fn answer_with(
         self,
         alloc: Global,

@@ -2,13 +2,13 @@
 
 ghost use Rattle.std.specs.Prelude.{◌≡◌, ◌↔◌, ◌≤◌, IsTrue, length};
 ghost use Rattle.dsa_recording.specs.declared.reading.ReadFault.TheVariants.{Memory};
-ghost use Rattle.dsa_recording.specs.Forms.{IsText};
+ghost use Rattle.dsa_forms.specs.Forms.{IsText};
 ghost use Rattle.dsa_recording.specs.Parts.{AnswersAfter, AnswersRead, AnswersWhole, Fills, IsStreamed};
 
 use crate::answer::{AuditAnswer, AuditFormat, AuditOptions};
-use crate::forms::is_text;
 use crate::input::audit;
 use crate::parts::{Parts, whole_bytes};
+use dsa_forms::is_text;
 use dsa_settings::Settings;
 use std::alloc::{AllocError, Global};
 use std::io::Read;

@@ -7,9 +7,9 @@ ghost use Rattle.dsa_recording.specs.Dumps.{AnswersPortal, AnswersStaged};
 use crate::answer::{AuditAnswer, AuditOptions, audit_bytes};
 use crate::dumps::{Dump, LONGEST_STREAM, StagingFault, stage};
 use crate::entry::Header;
-use crate::forms::is_text;
 use crate::input::{bytes_of_text_input, refusal};
 use dsa_descriptor::u64_at;
+use dsa_forms::is_text;
 use dsa_settings::Settings;
 use std::alloc::{AllocError, Global};
 

@@ -1,5 +1,6 @@
--- Notes beside an answer to operations change neither its status nor its text.
-use Rattle.std.proofs.Common.{◌≡◌, ◌∙◌, ℕ, Bool, false, List, [], ap, Result, IfOk, string_bytes, sym, subst}
+-- What explaining an input answers: notes beside an answer to operations change neither its status nor its text.
+use Rattle.std.proofs.Common.{◌≡◌, ◌∙◌, ℕ, Bool, false, List, [], ap, Result, IfOk, string_bytes, sym, subst, Some, codes}
+use Rattle.std.proofs.lemmas.Result.{IfOk-weaker}
 use Rattle.dsa_descriptor.specs.Fences.{barriers_of as barriers_in, unfenced_list}
 use Rattle.dsa_plan.specs.Settings.{Limits}
 use Rattle.dsa_lines.specs.declared.fault.TextFault.{TextFault}
@@ -10,16 +11,20 @@ use Rattle.dsa_calls.specs.declared.fault.PlanFault.{PlanFault}
 use Rattle.dsa_calls.specs.declared.fault.PlanFault.TheVariants.{Memory, Settings as Outside}
 use Rattle.dsa_calls.specs.Fault.{list_cause}
 use Rattle.clap.specs.declared.parser.matches.ArgMatches.{ArgMatches}
-use Rattle.dsa_text.specs.declared.answer.Answer.{Answer}
-use Rattle.dsa_text.specs.declared.form.Form.{Form}
+use Rattle.dsa_explain.specs.declared.picture.PieceRange.{PieceRange}
+use Rattle.dsa_advice.specs.declared.answer.Answer.{Answer}
+use Rattle.dsa_advice.specs.declared.form.Form.{Form}
 use Rattle.dsa_text.specs.declared.taken.Content.{Content}
 use Rattle.dsa_text.specs.declared.taken.Content.TheVariants.{Text, List as InList, Recording}
-use Rattle.dsa_text.specs.Comments.{names_of}
-use Rattle.dsa_text.specs.Explained.{ExplainsList, ExplainsText, is_assembled, is_planned, is_refused_list, is_refused_text}
-use Rattle.dsa_text.specs.Inputs.{ExplainsContent, ExplainsOperations, spells_none, spells_settings}
+use Rattle.dsa_advice.specs.Comments.{names_of}
+use Rattle.dsa_advice.specs.Explained.{ExplainsList, ExplainsText, is_assembled, is_planned, is_refused_list, is_refused_text}
+use Rattle.dsa_advice.specs.Shown.{form_of}
+use Rattle.dsa_text.specs.Inputs.{ExplainsContent, ExplainsInput, ExplainsOperations, ExplainsSaid, names_pieces, spells_none, spells_settings}
+use Rattle.dsa_text.specs.Options.{IsFlag, range_of}
+use Rattle.dsa_text.specs.Taken.{said_in}
 use Rattle.dsa_text.specs.Recorded.{ExplainsRecording, is_audited, is_refused_audit}
-use Rattle.dsa_text.specs.Refusals.{IsRefusal, NamesGrammar, RefusesText}
-use Rattle.dsa_text.proofs.Answered.{both, plan_beside, refused_beside}
+use Rattle.dsa_advice.specs.Refusals.{IsRefusal, NamesGrammar, RefusesText}
+use Rattle.dsa_advice.proofs.Answered.{both, plan_beside, refused_beside}
 
 text_refused : (fault : TextFault) (a b : Answer) → b.status ≡ a.status → b.text ≡ a.text → RefusesText fault a → RefusesText fault b
 text_refused (Grammar line column what) a b status text r =
@@ -72,3 +77,14 @@ pub operations_noted : {E : Type 0} (r : Result Answer E) (content : Content) (m
     → IfOk r (ExplainsOperations content m input form)
 operations_noted r content m input form a texts statuses h =
     both r _ _ _ (λ b text status. operations_beside content m input form a b status text h) texts statuses
+
+-- ---- an input
+
+-- explained as what is said or seen, in the form that the flags ask for
+pub as_input : {E : Type 0} (r : Result Answer E) (m : ArgMatches) (input : List ℕ) (range : PieceRange) (svg json waits all : Bool) (form : Form)
+    → range_of m ≡ Some range → IsFlag m (codes "svg") svg → IsFlag m (codes "json") json → IsFlag m (codes "waits") waits → IsFlag m (codes "all") all
+    → form ≡ form_of range svg json waits all → IfOk r (ExplainsSaid (said_in m) m input form) → IfOk r (ExplainsInput m input)
+as_input r m input range svg json waits all form named svg_is json_is waits_is all_is same h =
+    IfOk-weaker r _ _ (λ a x.
+    names_pieces range svg json waits all named svg_is json_is waits_is all_is
+    (subst (λ (f : Form). ExplainsSaid (said_in m) m input f a) same x)) h

@@ -8,7 +8,7 @@ use Rattle.dsa_lines.specs.Assembled.{IsListing}
 use Rattle.dsa_lines.specs.Barriers.{barriers_of}
 use Rattle.dsa_lines.specs.Texts.{lines_of}
 use Rattle.dsa_lines.proofs.OneText.{spelled_list}
-use Rattle.dsa_text.specs.declared.answer.Answer.{Answer}
+use Rattle.dsa_advice.specs.declared.answer.Answer.{Answer}
 use Rattle.dsa_resume.specs.declared.fault.ResumeFault.{ResumeFault}
 use Rattle.dsa_resume.specs.declared.fault.ResumeFault.TheVariants.{Plan, NotFailed, PassedBarrier, Records, SharedRecord}
 use Rattle.dsa_text.specs.Resumed.{IsListedText, IsResumeRefusal, NamesResume}

@@ -18,8 +18,8 @@ use Rattle.dsa_recording.specs.declared.reading.ReadFault.{ReadFault}
 use Rattle.dsa_recording.specs.Dumps.{AnswersStaged}
 use Rattle.dsa_recording.specs.Inputs.{AnswersInput}
 use Rattle.dsa_text.specs.declared.auditing.Given.{Given}
-use Rattle.dsa_text.specs.declared.settings.SettingsWords.{SettingsWords}
-use Rattle.dsa_text.specs.SettingsWords.{GivesSettings}
+use Rattle.dsa_advice.specs.declared.settings.SettingsWords.{SettingsWords}
+use Rattle.dsa_advice.specs.SettingsWords.{GivesSettings}
 use Rattle.dsa_text.specs.Options.{IsFlag, word_of}
 
 -- ---- the findings that count as errors

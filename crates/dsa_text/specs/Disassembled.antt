@@ -8,8 +8,8 @@ use Rattle.dsa_lines.specs.Barriers.{marked_text}
 use Rattle.dsa_calls.specs.Fault.{list_cause}
 use Rattle.dsa_descriptor.specs.Fences.{barriers_of, unfenced_list}
 use Rattle.dsa_calls.specs.Lists.{IsListOf}
-use Rattle.dsa_text.specs.declared.answer.Answer.{Answer}
-use Rattle.dsa_text.specs.Refusals.{IsRefusal}
+use Rattle.dsa_advice.specs.declared.answer.Answer.{Answer}
+use Rattle.dsa_advice.specs.Refusals.{IsRefusal}
 
 -- the canonical text of the list without its fences, each of which is a barrier but for one before the first operation; or its
 -- first fault without them

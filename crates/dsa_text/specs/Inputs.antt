@@ -7,22 +7,22 @@ use Rattle.dsa_descriptor.specs.Fences.{barriers_of, unfenced_list}
 use Rattle.dsa_plan.specs.Settings.{Limits}
 use Rattle.dsa_explain.specs.declared.picture.PieceRange.{PieceRange}
 use Rattle.dsa_calls.specs.declared.fault.PlanFault.TheVariants.{Hex, Settings as Outside}
-use Rattle.dsa_recording.specs.declared.kinds.InputKind.{InputKind}
-use Rattle.dsa_recording.specs.declared.kinds.InputKind.TheVariants.{Bytes, Job, Dump, Lines}
-use Rattle.dsa_recording.specs.Forms.{SpellsBytes, SpellsNone}
-use Rattle.dsa_recording.specs.Kinds.{is_binary, kind_of}
-use Rattle.dsa_text.specs.declared.answer.Answer.{Answer}
-use Rattle.dsa_text.specs.declared.form.Form.{Form}
-use Rattle.dsa_text.specs.declared.settings.SettingsWords.{SettingsWords}
+use Rattle.dsa_forms.specs.declared.kinds.InputKind.{InputKind}
+use Rattle.dsa_forms.specs.declared.kinds.InputKind.TheVariants.{Bytes, Job, Dump, Lines}
+use Rattle.dsa_forms.specs.Forms.{SpellsBytes, SpellsNone}
+use Rattle.dsa_forms.specs.Kinds.{is_binary, kind_of}
+use Rattle.dsa_advice.specs.declared.answer.Answer.{Answer}
+use Rattle.dsa_advice.specs.declared.form.Form.{Form}
+use Rattle.dsa_advice.specs.declared.settings.SettingsWords.{SettingsWords}
 use Rattle.dsa_text.specs.declared.taken.Content.{Content}
 use Rattle.dsa_text.specs.declared.taken.Content.TheVariants.{Text, List as Listed, Recording}
-use Rattle.dsa_text.specs.Refusals.{IsRefusal}
-use Rattle.dsa_text.specs.SettingsWords.{GivesSettings}
+use Rattle.dsa_advice.specs.Refusals.{IsRefusal}
+use Rattle.dsa_advice.specs.SettingsWords.{GivesSettings}
 use Rattle.dsa_text.specs.Options.{AreSettingsGiven, AreWords, IsFlag, range_of}
-use Rattle.dsa_text.specs.Explained.{ExplainsList, ExplainsText}
-use Rattle.dsa_text.specs.Jobs.{ExplainsJobText}
+use Rattle.dsa_advice.specs.Explained.{ExplainsList, ExplainsText}
+use Rattle.dsa_advice.specs.Jobs.{ExplainsJobText}
 use Rattle.dsa_text.specs.Recorded.{ExplainsRecording}
-use Rattle.dsa_text.specs.Shown.{form_of}
+use Rattle.dsa_advice.specs.Shown.{form_of}
 use Rattle.dsa_text.specs.Taken.{content_in, said_in}
 
 -- the message if an option gives settings beside a job

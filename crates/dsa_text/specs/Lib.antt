@@ -1,11 +1,3 @@
-pub mod Refusals
-pub mod Origins
-pub mod Comments
-pub mod Shown
-pub mod Explained
-pub mod Jobs
-pub mod Numbers
-pub mod SettingsWords
 pub mod Options
 pub mod Recorded
 pub mod Taken
@@ -13,7 +5,6 @@ pub mod Inputs
 pub mod Audited
 pub mod Stale
 pub mod Files
-pub mod Laws
 pub mod Traced
 pub mod Disassembled
 pub mod Resumed

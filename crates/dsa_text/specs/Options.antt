@@ -5,7 +5,7 @@ use Rattle.clap.specs.declared.parser.matches.ArgMatches.{ArgMatches}
 use Rattle.clap.specs.declared.parser.matches.ValueSource.TheVariants.{CommandLine}
 use Rattle.dsa_explain.specs.declared.picture.PieceRange.{PieceRange}
 use Rattle.dsa_lines.specs.Numbers.{number_of}
-use Rattle.dsa_text.specs.declared.settings.SettingsWords.{SettingsWords}
+use Rattle.dsa_advice.specs.declared.settings.SettingsWords.{SettingsWords}
 
 -- the option was given among the arguments, and does not only have its default
 abbrev pub IsGiven : ArgMatches → List ℕ → Type 0

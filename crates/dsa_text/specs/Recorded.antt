@@ -7,9 +7,9 @@ use Rattle.dsa_recording.specs.declared.answer.AuditOptions.{AuditOptions}
 use Rattle.dsa_recording.specs.declared.assumptions.Await.TheVariants.{Writes}
 use Rattle.dsa_recording.specs.Foreign.{AnswersEntries}
 use Rattle.dsa_recording.specs.Pairs.{has_key}
-use Rattle.dsa_text.specs.declared.answer.Answer.{Answer}
-use Rattle.dsa_text.specs.declared.form.Form.{Form}
-use Rattle.dsa_text.specs.Explained.{ExplainsText}
+use Rattle.dsa_advice.specs.declared.answer.Answer.{Answer}
+use Rattle.dsa_advice.specs.declared.form.Form.{Form}
+use Rattle.dsa_advice.specs.Explained.{ExplainsText}
 
 -- the options of `audit --list` without others, but for those that no list depends on
 pub record AreListOptions (o : AuditOptions) : Type 0 where

@@ -16,8 +16,8 @@ use Rattle.dsa_resume.specs.declared.left.LeftOrder.{LeftOrder}
 use Rattle.dsa_resume.specs.Causes.{resume_indices, resume_name, resume_number}
 use Rattle.dsa_resume.specs.Rest.{Remainder}
 use Rattle.dsa_resume.specs.Resumed.{ResumesOperations}
-use Rattle.dsa_text.specs.declared.answer.Answer.{Answer}
-use Rattle.dsa_text.specs.Refusals.{IsRefusal, RefusesText}
+use Rattle.dsa_advice.specs.declared.answer.Answer.{Answer}
+use Rattle.dsa_advice.specs.Refusals.{IsRefusal, RefusesText}
 
 -- the number, the name and the places of a refusal, as in the line of `dsa`
 abbrev pub resume_words : ResumeFault → List ℕ

@@ -3,7 +3,7 @@ use Rattle.std.specs.Prelude.{ℕ, List, codes, Option, Some, None, option_map, 
 use Rattle.std.specs.Str.{bytes_eq}
 use Rattle.clap.specs.Words.{first_value, found_of}
 use Rattle.clap.specs.declared.parser.matches.ArgMatches.{ArgMatches}
-use Rattle.dsa_recording.specs.Kinds.{has_batch}
+use Rattle.dsa_forms.specs.Kinds.{has_batch}
 use Rattle.dsa_text.specs.declared.taken.Content.{Content}
 use Rattle.dsa_text.specs.declared.taken.Content.TheVariants.{Text, List as Listed, Recording}
 

@@ -5,7 +5,7 @@ use Rattle.dsa_recording.specs.declared.accepted.Accepted.{Accepted}
 use Rattle.dsa_recording.specs.declared.answer.AuditAnswer.{AuditAnswer}
 use Rattle.dsa_recording.specs.declared.answer.AuditFormat.{AuditFormat}
 use Rattle.dsa_recording.specs.Pairs.{has_key}
-use Rattle.dsa_recording.specs.Forms.{IsText, SpellsBytes, SpellsNone}
+use Rattle.dsa_forms.specs.Forms.{IsText, SpellsBytes, SpellsNone}
 use Rattle.dsa_text.specs.declared.auditing.Given.{Given}
 use Rattle.dsa_text.specs.Audited.{AuditsInput, IsFormat}
 use Rattle.dsa_waits.specs.Answered.{AnswersWaits}

@@ -1,13 +1,12 @@
 //! `assemble`: a text as the bytes of its list, or as a job.
 
-use crate::answer::Answer;
 use crate::inputs::refused_settings;
-use crate::kept::{fence_lines, fenced_in};
 use crate::options::settings_words;
-use crate::settings::{push_settings, settings_of};
-use crate::unplanned::{Source, unplanned};
-use crate::words::line_of_operation;
 use clap::ArgMatches;
+use dsa_advice::{
+    Answer, Source, fence_lines, fenced_in, line_of_operation, push_settings, refuse_unplanned,
+    settings_of,
+};
 use dsa_calls::PlanFault;
 use dsa_descriptor::{FieldFault, ListFault, read_list};
 use dsa_lines::{assemble, assemble_fenced, text_barriers};
@@ -65,7 +64,7 @@ fn job_of_text(
     };
     match pieces(alloc, &operations, settings) {
         Ok(_) => job_of_list(alloc, list, settings),
-        Err(cause) => unplanned(
+        Err(cause) => refuse_unplanned(
             alloc,
             &operations,
             settings,

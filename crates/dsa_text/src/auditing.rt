@@ -7,11 +7,9 @@ ghost use Rattle.dsa_text.specs.Options.{IsFlag};
 ghost use Rattle.dsa_text.specs.Audited.{AnswersWith, AreAuditWords, AuditsInput, AuditsReader, IsFormat, Refuses, RefusesWith, Settle, SettleWith, awaited_by, awaited_in, denied_by, denied_in, format_of};
 
 use crate::commands::{batches, flag, value};
-use crate::messages::message_with;
-use crate::numbers::parts_of;
 use crate::options::word;
-use crate::settings::{SettingsWords, settings_fault, settings_of};
 use clap::{Arg, ArgAction, ArgMatches, Command};
+use dsa_advice::{SettingsWords, message_with, parts_of, settings_fault, settings_of};
 use dsa_calls::PlanFault;
 use dsa_plan::Settings;
 use dsa_recording::{

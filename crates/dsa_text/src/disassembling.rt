@@ -3,17 +3,14 @@
 ghost use Rattle.std.specs.Prelude.{IfOk};
 ghost use Rattle.dsa_text.specs.Disassembled.{DisassemblesFenced};
 
-use crate::answer::Answer;
-use crate::bytes::bytes_or_refusal;
-use crate::numbers::number_of;
 use crate::options::word;
-use crate::settings::limits_of;
 use clap::ArgMatches;
+use dsa_advice::{Answer, bytes_or_refusal, limits_of, number_of};
 use dsa_calls::PlanFault;
 use dsa_descriptor::read_descriptor_list;
+use dsa_forms::is_text;
 use dsa_lines::{EmittedFault, text_with_barriers};
 use dsa_plan::Setting;
-use dsa_recording::is_text;
 use std::alloc::{AllocError, Global};
 
 /// The text of a list.

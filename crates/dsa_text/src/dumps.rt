@@ -1,11 +1,11 @@
 //! The dumps of memory that options name.
 
-use crate::bytes::bytes_or_refusal;
 use crate::ending::{failed, without_audit};
-use crate::numbers::number_of;
 use crate::reading::input;
 use clap::ArgMatches;
-use dsa_recording::{Dump, is_text};
+use dsa_advice::{bytes_or_refusal, number_of};
+use dsa_forms::is_text;
+use dsa_recording::Dump;
 use std::alloc::{AllocError, Global};
 use std::process::ExitCode;
 

@@ -1,9 +1,8 @@
 //! How a command ends: what it writes, and its status.
 
-use crate::answer::Answer;
-use crate::messages::message_of;
 use crate::reading::NoText;
 use clap::error::ErrorKind;
+use dsa_advice::{Answer, message_of};
 use dsa_report::write_line;
 use std::alloc::AllocError;
 use std::io;

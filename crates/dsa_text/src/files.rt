@@ -9,11 +9,11 @@ ghost use Rattle.dsa_text.specs.Files.{AnswersFile, AreFileAnswers, AreRefusedTo
 
 use crate::auditing::{Given, options_in, times_named};
 use crate::ending::{UNWRITTEN, say};
-use crate::messages::message_of;
 use crate::options::is_either_given;
 use crate::reading::{NoText, file_at, unanswered};
 use crate::stale::{Stale, stale_in};
 use clap::ArgMatches;
+use dsa_advice::message_of;
 use dsa_plan::Settings;
 use dsa_recording::{Accepted, AuditAnswer, AuditFormat, AuditOptions, audit_read};
 use dsa_report::write_line;

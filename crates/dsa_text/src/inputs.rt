@@ -2,24 +2,22 @@
 
 ghost use Rattle.std.specs.Prelude.{◌≡◌, IfOk, string_bytes};
 ghost use Rattle.dsa_calls.specs.declared.fault.PlanFault.TheVariants.{Settings as Outside};
-ghost use Rattle.dsa_recording.specs.Kinds.{kind_of};
+ghost use Rattle.dsa_forms.specs.Kinds.{kind_of};
 ghost use Rattle.dsa_text.specs.Inputs.{ExplainsAs, ExplainsBytes, ExplainsContent, ExplainsInput, ExplainsOperations, ExplainsSaid, ExplainsSeen, ExplainsWithOptions, options_message};
-ghost use Rattle.dsa_text.specs.Refusals.{IsRefusal};
+ghost use Rattle.dsa_advice.specs.Refusals.{IsRefusal};
 ghost use Rattle.dsa_text.specs.Taken.{content_in, said_in};
 
-use crate::answer::Answer;
-use crate::bytes::bytes_or_refusal;
-use crate::explaining::{explain_fenced, explain_text};
-use crate::form::{Form, form_of};
-use crate::jobs::explain_job_text;
 use crate::options::{are_settings_given, range_of, settings_words};
 use crate::recorded::explain_recording;
-use crate::settings::{SettingsWords, settings_fault, settings_of};
 use crate::taken::{Content, Spelling, content_in, noted, said_in, taken_note, taken_text};
 use clap::ArgMatches;
+use dsa_advice::{
+    Answer, Form, SettingsWords, bytes_or_refusal, explain_fenced, explain_job_text, explain_text,
+    form_of, settings_fault, settings_of,
+};
 use dsa_calls::PlanFault;
+use dsa_forms::{InputKind, is_binary, kind_of};
 use dsa_plan::Settings;
-use dsa_recording::{InputKind, is_binary, kind_of};
 use dsa_sentences::TextCause;
 use std::alloc::{AllocError, Global};
 

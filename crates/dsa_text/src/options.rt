@@ -4,10 +4,9 @@ ghost use Rattle.std.specs.Prelude.{◌≡◌, ◌↔◌, ◌⊎◌, IsTrue};
 ghost use Rattle.clap.specs.Words.{first_value, found_of};
 ghost use Rattle.dsa_text.specs.Options.{ArePricesGiven, AreSettingsGiven, AreSizesGiven, AreWords, IsGiven, number_or, range_of, word_of};
 
-use crate::numbers::number_of;
-use crate::settings::SettingsWords;
 use clap::ArgMatches;
 use clap::parser::ValueSource;
+use dsa_advice::{SettingsWords, number_of};
 use dsa_explain::PieceRange;
 
 /// Whether an option was given.

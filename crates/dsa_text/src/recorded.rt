@@ -3,9 +3,7 @@
 ghost use Rattle.std.specs.Prelude.{IfOk};
 ghost use Rattle.dsa_text.specs.Recorded.{ExplainsRecording, ListsRecording};
 
-use crate::answer::Answer;
-use crate::explaining::explain_text;
-use crate::form::Form;
+use dsa_advice::{Answer, Form, explain_text};
 use dsa_plan::Settings;
 use dsa_recording::{
     Accepted, Assumptions, AuditAnswer, AuditFormat, AuditOptions, Await, Denied, audit_entries,

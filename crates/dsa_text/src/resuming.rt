@@ -5,24 +5,21 @@ ghost use Rattle.dsa_calls.specs.declared.fault.PlanFault.{PlanFault};
 ghost use Rattle.dsa_resume.specs.Rest.{remainder_of};
 ghost use Rattle.dsa_text.specs.Resumed.{IsRestText, IsResumeRefusal, NamesResume, ResumesText, resume_words};
 
-use crate::answer::Answer;
 use crate::assembling::passed_over;
-use crate::bytes::bytes_or_refusal;
 use crate::commands::{file, flag, keep_fences, settings_options};
 use crate::ending::{ended, without_text};
 use crate::inputs::refused_settings;
-use crate::kept::joined;
-use crate::left::resume_notes;
-use crate::messages::{push_indices, push_sentence};
-use crate::numbers::numbers_of;
 use crate::options::settings_words;
 use crate::reading::{file_in, input};
-use crate::settings::settings_of;
 use clap::{Arg, ArgAction, ArgMatches, Command};
+use dsa_advice::{
+    Answer, bytes_or_refusal, joined, numbers_of, push_indices, push_sentence, resume_notes,
+    settings_of,
+};
 use dsa_descriptor::MOST_PIECES;
+use dsa_forms::is_text;
 use dsa_lines::{parse_list, text_with_barriers};
 use dsa_plan::Settings;
-use dsa_recording::is_text;
 use dsa_resume::{LeftOrder, Rest, ResumeFault, resume_operations};
 use std::alloc::{AllocError, Global};
 use std::process::ExitCode;

@@ -5,9 +5,9 @@ ghost use Rattle.dsa_text.specs.Audited.{denies_stale};
 ghost use Rattle.dsa_text.specs.Stale.{FindsStale, WithStale, counts_stale, stale_status};
 
 use crate::auditing::{format_in, times_named};
-use crate::numbers::parts_of;
 use crate::traced::with_member;
 use clap::ArgMatches;
+use dsa_advice::parts_of;
 use dsa_recording::{Accepted, AuditAnswer, AuditFormat, stale_lines};
 use serde_json::Value;
 use std::alloc::{AllocError, Global};

@@ -3,10 +3,9 @@
 ghost use Rattle.std.specs.Prelude.{◌≡◌, IfOk};
 ghost use Rattle.dsa_text.specs.Taken.{content_by, content_in, content_of, said_in};
 
-use crate::answer::Answer;
-use crate::kept::joined;
 use clap::ArgMatches;
-use dsa_recording::has_batch;
+use dsa_advice::{Answer, joined};
+use dsa_forms::has_batch;
 use std::alloc::{AllocError, Global};
 
 /// What operations are in.

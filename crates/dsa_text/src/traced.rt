@@ -5,7 +5,8 @@ ghost use Rattle.dsa_text.specs.Traced.{AnswersEvents, AuditsEvents, IsJoined};
 
 use crate::auditing::{Given, audit_input, format_in};
 use clap::ArgMatches;
-use dsa_recording::{Accepted, AuditAnswer, AuditFormat, BytesFault, bytes_of_input, is_text};
+use dsa_forms::{BytesFault, bytes_of_input, is_text};
+use dsa_recording::{Accepted, AuditAnswer, AuditFormat};
 use dsa_waits::answer_waits;
 use std::alloc::{AllocError, Global};
 

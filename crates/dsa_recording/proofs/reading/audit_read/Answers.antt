@@ -1,6 +1,6 @@
 use Rattle.std.proofs.Common.{◌≡◌, ◌≤◌, [], ◌++◌, ap, arith, length, max, refl, subst, sym, ◌∙◌}
 use Rattle.std.specs.Io.KnownBytes.{Consumes}
-use Rattle.dsa_recording.specs.Forms.{IsText}
+use Rattle.dsa_forms.specs.Forms.{IsText}
 use Rattle.dsa_recording.proofs.Streamed.{read_whole}
 use Rattle.dsa_recording.proofs.reading.audit_read.Goals as goal
 

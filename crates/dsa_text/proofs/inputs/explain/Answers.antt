@@ -1,7 +1,7 @@
 use Rattle.std.proofs.Common.{sym}
 use Rattle.std.proofs.lemmas.Result.{IfOk-weaker}
 use Rattle.dsa_text.specs.Inputs.{names_none}
-use Rattle.dsa_text.proofs.Answered.{as_input}
+use Rattle.dsa_text.proofs.Noted.{as_input}
 use Rattle.dsa_text.proofs.inputs.explain.Goals as goal
 
 pub returns-in_default : goal.returns-in_default

@@ -1,7 +1,7 @@
 use Rattle.std.proofs.Common.{sym, subst, ◌∙◌}
 use Rattle.std.proofs.lemmas.Result.{IfOk-weaker}
 use Rattle.dsa_calls.specs.declared.fault.PlanFault.TheVariants.{Hex}
-use Rattle.dsa_recording.specs.Forms.{SpellsBytes}
+use Rattle.dsa_forms.specs.Forms.{SpellsBytes}
 use Rattle.dsa_text.specs.Inputs.{are_dumped, are_none, are_own}
 use Rattle.dsa_text.proofs.Noted.{refusal_noted}
 use Rattle.dsa_text.proofs.inputs.explain_bytes.Goals as goal

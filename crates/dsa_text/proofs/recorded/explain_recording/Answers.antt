@@ -1,7 +1,7 @@
 use Rattle.std.proofs.Common.{◌≡◌, ◌==◌, ℕ, List, false, Bool, arith, sym, subst, ap, ◌∙◌, string_bytes}
 use Rattle.std.proofs.lemmas.Result.{IfOk-weaker}
-use Rattle.dsa_text.specs.declared.answer.Answer.{Answer}
-use Rattle.dsa_text.specs.Explained.{ExplainsText}
+use Rattle.dsa_advice.specs.declared.answer.Answer.{Answer}
+use Rattle.dsa_advice.specs.Explained.{ExplainsText}
 use Rattle.dsa_text.specs.Recorded.{is_audited, is_refused_audit}
 use Rattle.dsa_text.proofs.recorded.explain_recording.Goals as goal
 

@@ -1,5 +1,5 @@
 use Rattle.dsa_resume.specs.Rest.{remainder_of}
-use Rattle.dsa_text.specs.Refusals.{RefusesText}
+use Rattle.dsa_advice.specs.Refusals.{RefusesText}
 use Rattle.dsa_text.specs.Resumed.{IsResumeRefusal, IsRestText, ResumesText, has_left, is_no_list, is_refused}
 use Rattle.dsa_text.proofs.WhatIsLeft.{if_ok_more, listed}
 use Rattle.dsa_text.proofs.resuming.resume_text.Goals as goal

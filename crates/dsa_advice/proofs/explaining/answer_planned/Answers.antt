@@ -1,0 +1,16 @@
+use Rattle.std.proofs.Common.{Some, List, ap, ◌∙◌}
+use Rattle.std.specs.Prelude.{map, string_bytes}
+use Rattle.dsa_descriptor.specs.declared.descriptor.Descriptor.{Descriptor}
+use Rattle.dsa_descriptor.specs.Descriptors.{fields}
+use Rattle.dsa_advice.specs.Origins.{origins_from}
+use Rattle.dsa_advice.proofs.Answered.{subject_answered}
+use Rattle.dsa_advice.proofs.Named.{labelled}
+use Rattle.dsa_advice.proofs.explaining.answer_planned.Goals as goal
+
+pub returns : goal.returns
+returns c =
+    let planned = c.args.planned.now in
+    let made = c.subject_of-subject.ensures in
+    let origins = c.deref-2.ensures.value ∙ c.in_ok-origins.ensures ∙ ap (λ (ds : List Descriptor). origins_from c.args.settings.now.greatest_transfer 0 (map fields ds)) c.deref.ensures.value in
+    subject_answered c.answer_plan.result c.args.settings.now c.subject_of-subject.result planned.plan planned.pieces.items planned.barriers.items _ (Some planned.cost) c.args.form made.plan made.pieces made.barriers
+    (made.labels ∙ labelled origins (ap (map string_bytes) c.deref-3.ensures.value ∙ c.in_ok-comments.ensures)) made.least c.answer_plan.ensures

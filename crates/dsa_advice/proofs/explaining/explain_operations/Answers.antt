@@ -1,0 +1,15 @@
+use Rattle.dsa_calls.specs.Planned.{submission_of}
+use Rattle.dsa_advice.specs.Comments.{names_from}
+use Rattle.dsa_advice.proofs.Answered.{operations_planned, operations_refused}
+use Rattle.dsa_advice.proofs.explaining.explain_operations.Goals as goal
+
+pub returns-in-Ok : goal.returns-in-Ok
+returns-in-Ok c = λ list listed.
+    let operations = c.args.operations.now in
+    operations_planned list operations.barriers.items (names_from c.args.source) c.args.settings.now c.args.form operations.descriptors.items (submission_of c.in-Ok.planned) c.answer_with_warnings.result listed
+    c.in-Ok.ensures.answer c.in-Ok.planned.barriers.items c.in-Ok.ensures.barriers c.answer_with_warnings.ensures
+
+pub returns-in-Err : goal.returns-in-Err
+returns-in-Err c = λ list listed.
+    let operations = c.args.operations.now in
+    operations_refused list operations.barriers.items (names_from c.args.source) c.args.settings.now c.args.form operations.descriptors.items c.in-Err.fault c.refuse_unplanned.result listed c.in-Err.ensures.answer c.refuse_unplanned.ensures

@@ -1,0 +1,108 @@
+-- What explaining a text, a list, a given plan or the bytes of an emission answers (this project's choice).
+use Rattle.std.specs.Prelude.{◌≡◌, ◌⊎◌, ◌-◌, ◌==◌, ℕ, Bool, List, [], ◌++◌, codes, decimal, map, string_bytes, Option, Some, None, Ok, Err, if◌then◌else◌}
+use Rattle.dsa_descriptor.specs.declared.descriptor.Descriptor.{Descriptor}
+use Rattle.dsa_descriptor.specs.Fields.{Fields}
+use Rattle.dsa_descriptor.specs.Descriptors.{fields}
+use Rattle.dsa_plan.specs.Plan.{Plan}
+use Rattle.dsa_plan.specs.Settings.{Limits}
+use Rattle.dsa_plan.specs.EmissionFaults.{IsEmission}
+use Rattle.dsa_plan.specs.Certificate.{Contents}
+use Rattle.dsa_lines.specs.declared.fault.TextFault.{TextFault}
+use Rattle.dsa_lines.specs.Barriers.{barriers_of}
+use Rattle.dsa_lines.specs.Texts.{lines_of}
+use Rattle.dsa_lines.specs.Assembled.{Assembles, IsListing}
+use Rattle.dsa_calls.specs.declared.fault.PlanFault.{PlanFault}
+use Rattle.dsa_calls.specs.declared.fault.PlanFault.TheVariants.{Memory}
+use Rattle.dsa_calls.specs.Checked.{Checks, IsShownLeast}
+use Rattle.dsa_calls.specs.Fenced.{PlansWith}
+use Rattle.dsa_calls.specs.Judge.{Judges, JudgesPieces}
+use Rattle.dsa_calls.specs.Lists.{IsListOf}
+use Rattle.dsa_calls.specs.Planned.{Submission, Plans, PlansOperations}
+use Rattle.dsa_splitter.specs.Pieces.{piece_barriers}
+use Rattle.dsa_reasons.specs.declared.fences.Detail.{Detail}
+use Rattle.dsa_explain.specs.declared.explanation.ExplainFault.{ExplainFault}
+use Rattle.dsa_explain.specs.declared.picture.PieceRange.{PieceRange}
+use Rattle.dsa_explain.specs.Explained.{Explains}
+use Rattle.dsa_explain.specs.Runs.{Labelling}
+use Rattle.dsa_advice.specs.declared.answer.Answer.{Answer}
+use Rattle.dsa_advice.specs.declared.form.Form.{Form}
+use Rattle.dsa_advice.specs.declared.form.Form.TheVariants.{Words, Picture, Json, Waits}
+use Rattle.dsa_advice.specs.Refusals.{IsRefusal, RefusesText, explain_cause}
+use Rattle.dsa_advice.specs.Comments.{names_of}
+use Rattle.dsa_advice.specs.Origins.{origins_from}
+use Rattle.dsa_advice.specs.Shown.{AnswersPlan, TellsPlan, unlabelled}
+
+-- an allocation failed, or this is a cause
+abbrev pub MemoryOr : (PlanFault → Type 0) → PlanFault → Type 0
+MemoryOr Cause fault = (fault ≡ Memory) ⊎ Cause fault
+
+-- ---- the plan of least cost
+
+-- the labels of the pieces of operations with these names
+abbrev pub labels_of : Limits → List Fields → List (List ℕ) → Labelling
+labels_of s fs names = record { origins = origins_from s.greatest_transfer 0 fs; names = names }
+
+-- refused if `plan_list` refuses the list, for its cause; else the plan of the list and its barriers, with the operation
+-- that each piece is of, and these names of the operations
+pub data ExplainsList (list : List ℕ) (barriers : List Bool) (names : List (List ℕ)) (s : Limits) (form : Form) (a : Answer) : Type 0 where
+  is_refused_list : (fault : PlanFault) → MemoryOr (λ f. Plans list s (Err f)) fault → IsRefusal fault a → ExplainsList list barriers names s form a
+  is_planned : (ds : List Descriptor) (p : Submission) → IsListOf list ds → PlansWith barriers s (map fields ds) (Ok p)
+      → AnswersPlan s p.plan p.pieces (piece_barriers s.greatest_transfer (map fields ds) barriers) (labels_of s (map fields ds) names) (Some p.cost) form a
+      → ExplainsList list barriers names s form a
+
+-- refused if the text spells no list; else the answer for the list and the barriers that it spells, with the comments of
+-- its operations as their names
+pub data ExplainsText (text : List ℕ) (keep_fences : Bool) (s : Limits) (form : Form) (a : Answer) : Type 0 where
+  is_refused_text : (fault : TextFault) → Assembles (λ bytes. bytes) (lines_of text) (Err fault) → RefusesText fault a → ExplainsText text keep_fences s form a
+  is_assembled : (list : List ℕ) → IsListing (lines_of text) list → ExplainsList list (barriers_of keep_fences (lines_of text)) (names_of (lines_of text)) s form a
+      → ExplainsText text keep_fences s form a
+
+-- ---- the plan that bytes submit
+
+-- refused if `check` refuses the bytes or the certificate, for its cause; else the plan that the
+-- bytes submit, which the certificate proves to be of least cost
+pub data ExplainsChecked (portal staging : List ℕ) (s : Limits) (c : Contents) (form : Form) (a : Answer) : Type 0 where
+  is_refused_check : (fault : PlanFault) → MemoryOr (λ f. Checks portal staging s c (Err f)) fault → IsRefusal fault a → ExplainsChecked portal staging s c form a
+  is_checked : (cost : ℕ) (plan : Plan) (ds : List Descriptor) → IsEmission s portal staging plan ds → IsShownLeast s (map fields ds) plan c cost
+      → AnswersPlan s plan ds [] unlabelled (Some cost) form a → ExplainsChecked portal staging s c form a
+
+-- ---- a given plan
+
+-- how much more the plan costs than a least plan
+abbrev pub more_words : ℕ → List ℕ
+more_words more =
+    if more == 0 then codes "no plan costs less\n" else codes "this plan costs " ++ (decimal more ++ codes " more\n")
+
+-- the line of the least cost, if it is known
+abbrev pub least_words : ℕ → Option ℕ → List ℕ
+least_words cost None = []
+least_words cost (Some least) = codes "least " ++ (decimal least ++ (codes ": " ++ more_words (cost - least)))
+
+-- the cost of a least plan of the pieces, if one can be made: a planner needs a staging area of its own
+abbrev pub IsLeastCost : Limits → List Fields → Option ℕ → Type 0
+IsLeastCost s fs None = (fault : PlanFault) × PlansOperations s fs (Err fault)
+IsLeastCost s fs (Some least) = (p : Submission) × PlansOperations s fs (Ok p) × (least ≡ p.cost)
+
+-- the plan in words, and after them the least cost, if there is one
+pub record TellsJudged (s : Limits) (detail : Detail) (plan : Plan) (pieces : List Descriptor) (cost : ℕ) (text : List ℕ) : Type 0 where
+  pub words : List ℕ
+  pub least : Option ℕ
+  pub tells : TellsPlan s detail plan pieces [] unlabelled words
+  pub is_least : IsLeastCost s (map fields pieces) least
+  pub text_is : text ≡ words ++ least_words cost least
+
+-- a judged plan as a picture, as JSON or in words, with the least cost, or by its waits; or refused for the cause that
+-- `explain` finds, which can only be an allocation failure
+pub data AnswersJudged (s : Limits) (plan : Plan) (pieces : List Descriptor) (cost : ℕ) (form : Form) (a : Answer) : Type 0 where
+  is_drawn : (least : Option ℕ) (range : PieceRange) → form ≡ Picture range → IsLeastCost s (map fields pieces) least → AnswersPlan s plan pieces [] unlabelled least form a → AnswersJudged s plan pieces cost form a
+  is_spelled : (least : Option ℕ) → form ≡ Json → IsLeastCost s (map fields pieces) least → AnswersPlan s plan pieces [] unlabelled least form a → AnswersJudged s plan pieces cost form a
+  is_waiting : form ≡ Waits → AnswersPlan s plan pieces [] unlabelled None form a → AnswersJudged s plan pieces cost form a
+  is_told : (detail : Detail) → form ≡ Words detail → a.status ≡ 0 → TellsJudged s detail plan pieces cost (string_bytes a.text) → AnswersJudged s plan pieces cost form a
+  is_untold : (detail : Detail) → form ≡ Words detail → (fault : ExplainFault) → Explains s detail pieces [] plan (Err fault) → IsRefusal (explain_cause fault) a → AnswersJudged s plan pieces cost form a
+
+-- refused if `judge` refuses the list or the plan, for its cause; else the plan with the cost that
+-- `judge` answers
+pub data ExplainsJudged (list : List ℕ) (plan : Plan) (s : Limits) (form : Form) (a : Answer) : Type 0 where
+  is_refused_judge : (fault : PlanFault) → MemoryOr (λ f. Judges list plan s (Err f)) fault → IsRefusal fault a → ExplainsJudged list plan s form a
+  is_judged : (cost : ℕ) (ds : List Descriptor) → IsListOf list ds → JudgesPieces (map fields ds) plan s (Ok cost)
+      → AnswersJudged s plan ds cost form a → ExplainsJudged list plan s form a

@@ -1,0 +1,9 @@
+pub mod Refusals
+pub mod Origins
+pub mod Comments
+pub mod Shown
+pub mod Explained
+pub mod Jobs
+pub mod Numbers
+pub mod SettingsWords
+pub mod Laws

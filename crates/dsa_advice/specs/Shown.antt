@@ -1,0 +1,111 @@
+-- What explaining a plan of pieces answers (this project's choice).
+use Rattle.std.specs.Prelude.{◌≡◌, ◌<◌, ◌≤◌, ℕ, Bool, List, [], ◌++◌, codes, decimal, length, map, string_bytes, Option, Err, if◌then◌else◌}
+use Rattle.dsa_descriptor.specs.declared.descriptor.Descriptor.{Descriptor}
+use Rattle.dsa_descriptor.specs.Descriptors.{fields}
+use Rattle.dsa_sentences.specs.declared.causes.TextCause.TheVariants.{Picture as Large}
+use Rattle.dsa_sentences.specs.Endings.{ending_of}
+use Rattle.dsa_plan.specs.Plan.{Plan}
+use Rattle.dsa_plan.specs.Settings.{Limits}
+use Rattle.dsa_reasons.specs.declared.fences.Detail.{Detail}
+use Rattle.dsa_reasons.specs.declared.fences.Detail.TheVariants.{First, All as Every}
+use Rattle.dsa_explain.specs.declared.explanation.ExplainFault.{ExplainFault}
+use Rattle.dsa_explain.specs.declared.picture.PieceRange.{PieceRange}
+use Rattle.dsa_explain.specs.declared.explanation.Explanation.{Explanation}
+use Rattle.dsa_explain.specs.Explained.{CanBeExplained, Explains, IsExplanationOf}
+use Rattle.dsa_drawing.specs.Pictures.{IsPicture}
+use Rattle.dsa_explain.specs.Runs.{Labelling, labelling}
+use Rattle.dsa_explain.specs.Words.{explanation_words}
+use Rattle.dsa_explain.specs.Document.{explanation_line}
+use Rattle.dsa_explain.specs.declared.waits.WaitsFault.TheVariants.{Track}
+use Rattle.dsa_explain.specs.Waits.{AreWaits, RefusesWaits, waits_words}
+use Rattle.dsa_tracker.specs.declared.fault.TrackFault.{TrackFault}
+use Rattle.dsa_tracker.specs.declared.slots.Slots.{Slots}
+use Rattle.dsa_tracker.specs.Causes.{track_name, track_number}
+use Rattle.dsa_advice.specs.declared.answer.Answer.{Answer}
+use Rattle.dsa_advice.specs.declared.shown.Subject.{Subject}
+use Rattle.dsa_advice.specs.declared.form.Form.{Form}
+use Rattle.dsa_advice.specs.declared.form.Form.TheVariants.{Words, Picture, Json, Waits}
+use Rattle.dsa_advice.specs.Refusals.{IsRefusal, explain_cause}
+
+-- ---- forms
+
+-- how many of the conflicts of each fence a form shows
+abbrev pub detail_of : Form → Detail
+detail_of (Words detail) = detail
+detail_of (Picture range) = First
+detail_of Json = Every
+detail_of Waits = First
+
+-- the form that flags ask for: a picture of these pieces, JSON, what groups wait for, words with all conflicts; else words with the first ones
+abbrev pub form_of : PieceRange → Bool → Bool → Bool → Bool → Form
+form_of range svg json waits all =
+    if svg then Picture range else (if json then Json else (if waits then Waits else (if all then Words Every else Words First)))
+
+-- ---- what is shown
+
+-- the most groups that are drawn
+abbrev pub most_rows : ℕ
+most_rows = 1024
+
+-- the labels of pieces that are of no known operations
+abbrev pub unlabelled : Labelling
+unlabelled = record { origins = []; names = [] }
+
+-- the text is the explanation of the plan in words, and the plan can be explained
+pub record TellsPlan (s : Limits) (detail : Detail) (plan : Plan) (pieces : List Descriptor) (barriers : List Bool) (labels : Labelling) (text : List ℕ) : Type 0 where
+  pub can : CanBeExplained s pieces barriers plan
+  pub explanation : Explanation
+  pub is : IsExplanationOf s detail pieces barriers plan explanation
+  pub words : text ≡ explanation_words s detail explanation pieces labels
+
+-- the text is the line of the explanation in JSON, with all conflicts and what a least plan costs, if that is known
+pub record SpellsPlan (s : Limits) (plan : Plan) (pieces : List Descriptor) (barriers : List Bool) (labels : Labelling) (least : Option ℕ) (text : List ℕ) : Type 0 where
+  pub can : CanBeExplained s pieces barriers plan
+  pub explanation : Explanation
+  pub is : IsExplanationOf s Every pieces barriers plan explanation
+  pub line : text ≡ explanation_line explanation pieces labels least
+
+-- the text is a picture, and the plan can be explained and has few groups
+pub record DrawsPlan (s : Limits) (plan : Plan) (pieces : List Descriptor) (barriers : List Bool) (text : List ℕ) : Type 0 where
+  pub can : CanBeExplained s pieces barriers plan
+  pub few : length plan ≤ most_rows
+  pub picture : IsPicture text
+
+-- the text says what each group waits for, and the plan can be explained
+pub record TellsWaits (s : Limits) (plan : Plan) (pieces : List Descriptor) (barriers : List Bool) (text : List ℕ) : Type 0 where
+  pub can : CanBeExplained s pieces barriers plan
+  pub slots : List ℕ
+  pub sets : List Slots
+  pub are : AreWaits s.staging plan (map fields pieces) slots sets
+  pub words : text ≡ waits_words slots sets
+
+-- the plan in a form
+abbrev pub ShowsPlan : Form → Limits → Plan → List Descriptor → List Bool → Labelling → Option ℕ → List ℕ → Type 0
+ShowsPlan (Words detail) s plan pieces barriers labels least text = TellsPlan s detail plan pieces barriers labels text
+ShowsPlan (Picture range) s plan pieces barriers labels least text = DrawsPlan s plan pieces barriers text
+ShowsPlan Json s plan pieces barriers labels least text = SpellsPlan s plan pieces barriers labels least text
+ShowsPlan Waits s plan pieces barriers labels least text = TellsWaits s plan pieces barriers text
+
+-- the message if a plan has too many groups to draw
+abbrev pub too_many_groups : ℕ → List ℕ
+too_many_groups groups =
+    codes "error: " ++ (decimal groups ++ (codes " groups, a picture has 1024 at most" ++ ending_of Large))
+
+-- the message if a tracker refuses the groups
+abbrev pub untracked : TrackFault → List ℕ
+untracked fault =
+    codes "error: a tracker with 64 slots refuses the groups" ++ (codes " [" ++ (decimal (track_number fault) ++ (codes " " ++ (track_name fault ++ codes "]\n"))))
+
+-- A plan that can be explained is shown, with status 0. A plan is refused if it can't be explained, for
+-- the cause that `explain` finds, if it has too many groups to draw, or if a tracker refuses its groups.
+pub data AnswersPlan (s : Limits) (plan : Plan) (pieces : List Descriptor) (barriers : List Bool) (labels : Labelling) (least : Option ℕ) (form : Form) (a : Answer) : Type 0 where
+  is_shown : a.status ≡ 0 → ShowsPlan form s plan pieces barriers labels least (string_bytes a.text) → AnswersPlan s plan pieces barriers labels least form a
+  is_unfit : (fault : ExplainFault) → Explains s (detail_of form) pieces barriers plan (Err fault) → IsRefusal (explain_cause fault) a → AnswersPlan s plan pieces barriers labels least form a
+  is_too_large : (range : PieceRange) → form ≡ Picture range → CanBeExplained s pieces barriers plan → most_rows < length plan → a.status ≡ 1
+      → string_bytes a.text ≡ too_many_groups (length plan) → AnswersPlan s plan pieces barriers labels least form a
+  is_untracked : (fault : TrackFault) → form ≡ Waits → CanBeExplained s pieces barriers plan → RefusesWaits s.staging plan (map fields pieces) (Track fault)
+      → a.status ≡ 1 → string_bytes a.text ≡ untracked fault → AnswersPlan s plan pieces barriers labels least form a
+
+-- the plan that is shown in a form
+abbrev pub AnswersSubject : Limits → Subject → Form → Answer → Type 0
+AnswersSubject s x form a = AnswersPlan s x.plan.now x.pieces.now x.barriers.now (labelling x.labels) x.least form a

@@ -1,0 +1,121 @@
+//! Notes and warnings about the fences and the barriers of a text: which fences a plan does not
+//! keep, and that a tracker sees no barriers.
+
+use crate::form::Form;
+use crate::notes::Notes;
+use crate::origins::count_of;
+use crate::unplanned::Source;
+use crate::words::line_of_operation;
+use dsa_descriptor::Descriptor;
+use dsa_lines::text_barriers;
+use dsa_plan::{Plan, Settings};
+use dsa_settings::cuts_of;
+use std::alloc::{AllocError, Global};
+
+/// One text and the other after it.
+pub fn joined(first: Option<String>, second: Option<String>) -> Result<Option<String>, AllocError> {
+    let Some(mut text) = first else {
+        return Ok(second);
+    };
+    if let Some(more) = second {
+        text.push_str(&more)?;
+    }
+    Ok(Some(text))
+}
+
+/// The warning that a tracker sees no barriers, if a list with barriers is explained by what its
+/// groups wait for.
+pub(crate) fn barrier_notes(
+    alloc: Global,
+    source: Source<'_>,
+    marks: &[bool],
+    form: Form,
+) -> Result<Option<String>, AllocError> {
+    match (source, form) {
+        (Source::Text(_) | Source::List, Form::Waits) if !marks.is_empty() => Ok(Some(
+            String::from_str(
+                alloc,
+                "warning: a tracker does not see barriers: let each group wait for all before it\n",
+            )?,
+        )),
+        (Source::Text(_) | Source::List | Source::Job, _) => Ok(None),
+    }
+}
+
+/// The operations that have `fence` in their lines, and no barrier before them.
+pub fn fenced_in(alloc: Global, text: &[u8]) -> Result<Vec<usize>, AllocError> {
+    let kept = text_barriers(alloc, text, true)?;
+    let plain = text_barriers(alloc, text, false)?;
+    let mut fenced = Vec::new(alloc);
+    for (operation, mark) in kept.iter().enumerate() {
+        if *mark && !plain.get(operation).copied().unwrap_or(false) {
+            fenced.push(operation)?;
+        }
+    }
+    Ok(fenced)
+}
+
+/// The operations whose first piece neither is fenced in the plan nor begins a group.
+fn unkept_in(
+    alloc: Global,
+    fenced: &[usize],
+    operations: &[Descriptor],
+    plan: &Plan,
+    settings: &Settings,
+) -> Result<Vec<usize>, AllocError> {
+    let cuts = cuts_of(alloc, plan)?;
+    let mut unkept = Vec::new(alloc);
+    let mut rest = fenced;
+    let mut first: usize = 0;
+    for (operation, d) in operations.iter().enumerate() {
+        let [next, behind @ ..] = rest else {
+            break;
+        };
+        if *next == operation {
+            if cuts.get(first).copied() == Some(false) {
+                unkept.push(operation)?;
+            }
+            rest = behind;
+        }
+        first = first.saturating_add(count_of(d, settings));
+    }
+    Ok(unkept)
+}
+
+/// A line for each of these operations, with the place of its fence.
+pub fn fence_lines(
+    alloc: Global,
+    text: &[u8],
+    operations: &[usize],
+    why: &str,
+) -> Result<Option<String>, AllocError> {
+    let mut notes = Notes::new(alloc);
+    for operation in operations {
+        if notes.count() {
+            let line = line_of_operation(text, *operation);
+            notes.write(&format!(in alloc; "note: line {line}, operation {operation}: ")?)?;
+            notes.write(why)?;
+            notes.write("; --keep-fences makes it a barrier\n")?;
+        }
+    }
+    notes.into_text(alloc, "fences")
+}
+
+/// A line for each fence of a text that the plan of its operations does not keep.
+pub(crate) fn unkept_notes(
+    alloc: Global,
+    source: Source<'_>,
+    operations: &[Descriptor],
+    plan: &Plan,
+    settings: &Settings,
+) -> Result<Option<String>, AllocError> {
+    let Source::Text(text) = source else {
+        return Ok(None);
+    };
+    let fenced = fenced_in(alloc, text)?;
+    if fenced.is_empty() {
+        return Ok(None);
+    }
+    let unkept = unkept_in(alloc, &fenced, operations, plan, settings)?;
+    fence_lines(alloc, text, &unkept, "the plan does not keep this fence")
+}

@@ -1,0 +1,49 @@
+//! Answers on lists as bytes, texts and jobs: what their plans do and why, what is worth a note, and what is wrong with
+//! one that is refused.
+#![tactic(auto)]
+
+mod answer;
+mod bytes;
+mod checks;
+mod comments;
+mod decimals;
+mod diagnosis;
+mod explaining;
+mod faulty;
+mod form;
+mod jobs;
+mod judged;
+mod judging;
+mod kept;
+mod laws;
+mod left;
+mod listed;
+mod members;
+mod messages;
+mod mistakes;
+mod notes;
+mod numbers;
+mod origins;
+mod overlapping;
+mod overwritten;
+mod rows;
+mod settings;
+mod shown;
+mod syntax;
+mod unplanned;
+mod words;
+
+pub use answer::Answer;
+pub use bytes::bytes_or_refusal;
+pub use explaining::{explain_checked, explain_fenced, explain_list, explain_text};
+pub use form::{Form, form_of};
+pub use jobs::explain_job_text;
+pub use judging::explain_judged;
+pub use kept::{fence_lines, fenced_in, joined};
+pub use laws::{marked_fences_are_needed, one_name_each, planned_fences_are_needed};
+pub use left::resume_notes;
+pub use messages::{message_of, message_with, push_indices, push_sentence};
+pub use numbers::{number_of, numbers_of, parts_of};
+pub use settings::{SettingsWords, limits_of, push_settings, settings_fault, settings_of};
+pub use unplanned::{Source, refuse_unplanned};
+pub use words::line_of_operation;

@@ -1,0 +1,243 @@
+//! A plan of pieces, explained in words, as a picture or as JSON.
+
+ghost use Rattle.std.specs.Prelude.{◌≡◌, [], IfOk, MatchResult, Err, string_bytes};
+ghost use Rattle.dsa_explain.specs.Explained.{Explains};
+ghost use Rattle.dsa_reasons.specs.declared.fences.Detail.TheVariants.{All as Every};
+ghost use Rattle.dsa_advice.specs.declared.form.Form.TheVariants.{Json, Picture, Waits, Words};
+ghost use Rattle.dsa_explain.specs.Runs.{labelling};
+ghost use Rattle.dsa_advice.specs.Shown.{AnswersSubject, SpellsPlan, TellsPlan, too_many_groups, unlabelled, untracked};
+
+use crate::answer::Answer;
+use crate::form::Form;
+use dsa_descriptor::Descriptor;
+use dsa_explain::{
+    Buffer, Detail, ExplainFault, Labels, MOST_ROWS, Origin, PieceRange, View, WaitsFault, draw,
+    explain, explanation_line, explanation_text, group_waits, waits_text,
+};
+use dsa_plan::{Plan, Settings};
+use dsa_sentences::TextCause;
+use dsa_tracker::TrackFault;
+use std::alloc::{AllocError, Global};
+
+/// What is shown: a plan of pieces and their barriers, the operation that each piece is of, the names of
+/// operations and buffers, and what a least plan costs, if that is known.
+#[derive(Clone, Copy)]
+pub(crate) struct Subject<'a> {
+    pub(crate) plan: &'a Plan,
+    pub(crate) pieces: &'a [Descriptor],
+    pub(crate) barriers: &'a [bool],
+    pub(crate) labels: Labels<'a>,
+    pub(crate) buffers: &'a [Buffer],
+    pub(crate) least: Option<u64>,
+}
+
+/// A plan of pieces without barriers, whose operations are not known.
+pub(crate) fn plain<'a>(plan: &'a Plan, pieces: &'a [Descriptor], least: Option<u64>) -> Subject<'a>
+    ensures plan { result.plan.now ≡ plan.now }
+    ensures pieces { result.pieces.now ≡ pieces.now }
+    ensures barriers { result.barriers.now ≡ [] }
+    ensures labels { labelling result.labels ≡ unlabelled }
+    ensures least { result.least ≡ least }
+{
+    let origins: &[Origin] = &[];
+    let names: &[String] = &[];
+    let buffers: &[Buffer] = &[];
+    let labels = Labels { origins, names };
+    Subject {
+        plan,
+        pieces,
+        barriers: [].as_slice(),
+        labels,
+        buffers,
+        least,
+    }
+}
+
+/// What a plan of pieces does and why, in words.
+pub(crate) fn plan_words(
+    alloc: Global,
+    subject: &Subject<'_>,
+    settings: &Settings,
+    detail: Detail,
+) -> Result<String, ExplainFault>
+    ensures { MatchResult result
+        (λ s. TellsPlan settings.now detail subject.now.plan.now subject.now.pieces.now
+        subject.now.barriers.now (labelling subject.now.labels) (string_bytes s))
+        (λ fault. Explains settings.now detail subject.now.pieces.now subject.now.barriers.now
+        subject.now.plan.now (Err fault)) }
+{
+    let Subject {
+        plan,
+        pieces,
+        barriers,
+        ..
+    } = *subject;
+    let explanation = explain(alloc, plan, pieces, barriers, settings, detail)?;
+    match explanation_text(
+        alloc,
+        &explanation,
+        pieces,
+        &subject.labels,
+        settings,
+        detail,
+    ) {
+        Ok(text) => Ok(text),
+        Err(_) => Err(ExplainFault::Memory),
+    }
+}
+
+/// The answer for a plan of pieces in words.
+fn answer_words(
+    alloc: Global,
+    subject: &Subject<'_>,
+    settings: &Settings,
+    detail: Detail,
+) -> Result<Answer, AllocError>
+    ensures { IfOk result (AnswersSubject settings.now subject.now (Words detail)) }
+{
+    match plan_words(alloc, subject, settings, detail) {
+        Ok(text) => Ok(Answer::done(text)),
+        Err(fault) => Answer::explain_fault(alloc, fault),
+    }
+}
+
+/// What a plan of pieces does and why, as JSON.
+fn plan_line(
+    alloc: Global,
+    subject: &Subject<'_>,
+    settings: &Settings,
+) -> Result<String, ExplainFault>
+    ensures { MatchResult result
+        (λ s. SpellsPlan settings.now subject.now.plan.now subject.now.pieces.now
+        subject.now.barriers.now (labelling subject.now.labels) subject.now.least
+        (string_bytes s))
+        (λ fault. Explains settings.now Every subject.now.pieces.now subject.now.barriers.now
+        subject.now.plan.now (Err fault)) }
+{
+    let Subject {
+        plan,
+        pieces,
+        barriers,
+        least,
+        ..
+    } = *subject;
+    let explanation = explain(alloc, plan, pieces, barriers, settings, Detail::All)?;
+    match explanation_line(alloc, &explanation, pieces, &subject.labels, least) {
+        Ok(line) => Ok(line),
+        Err(_) => Err(ExplainFault::Memory),
+    }
+}
+
+/// The answer for a plan of pieces as JSON.
+fn answer_json(
+    alloc: Global,
+    subject: &Subject<'_>,
+    settings: &Settings,
+) -> Result<Answer, AllocError>
+    ensures { IfOk result (AnswersSubject settings.now subject.now Json) }
+{
+    match plan_line(alloc, subject, settings) {
+        Ok(line) => Ok(Answer::done(line)),
+        Err(fault) => Answer::explain_fault(alloc, fault),
+    }
+}
+
+/// The refusal of a plan that has too many groups to draw.
+fn too_many_groups(alloc: Global, groups: usize) -> Result<Answer, AllocError>
+    ensures status { IfOk result (λ a. a.status ≡ 1) }
+    ensures text { IfOk result (λ a. string_bytes a.text ≡ too_many_groups groups) }
+{
+    let mut text = format!(in alloc; "error: {groups} groups, a picture has 1024 at most")?;
+    text.push_str(TextCause::Picture.ending())?;
+    Ok(Answer::refused(text))
+}
+
+/// The answer for a plan of pieces as a picture.
+fn answer_picture(
+    alloc: Global,
+    subject: &Subject<'_>,
+    settings: &Settings,
+    range: PieceRange,
+) -> Result<Answer, AllocError>
+    ensures { IfOk result (AnswersSubject settings.now subject.now (Picture range)) }
+{
+    let Subject {
+        plan,
+        pieces,
+        barriers,
+        buffers,
+        least,
+        ..
+    } = *subject;
+    let explanation = match explain(alloc, plan, pieces, barriers, settings, Detail::First) {
+        Ok(explanation) => explanation,
+        Err(fault) => return Answer::explain_fault(alloc, fault),
+    };
+    let groups = plan.groups().len();
+    if groups > MOST_ROWS {
+        return too_many_groups(alloc, groups);
+    }
+    let picture = draw(
+        alloc,
+        &explanation,
+        pieces,
+        &subject.labels,
+        View { buffers, range },
+        settings,
+        least,
+    )?;
+    Ok(Answer::done(picture))
+}
+
+/// The refusal of groups that a tracker refuses.
+fn untracked(alloc: Global, fault: TrackFault) -> Result<Answer, AllocError>
+    ensures status { IfOk result (λ a. a.status ≡ 1) }
+    ensures text { IfOk result (λ a. string_bytes a.text ≡ untracked fault) }
+{
+    let (number, name) = (fault.number(), fault.name());
+    let mut text = String::from_str(alloc, "error: a tracker with 64 slots refuses the groups")?;
+    let cause = format!(in alloc; " [{number} {name}]\n")?;
+    text.push_str(&cause)?;
+    Ok(Answer::refused(text))
+}
+
+/// The answer for a plan of pieces by what its groups wait for.
+fn answer_waits(
+    alloc: Global,
+    subject: &Subject<'_>,
+    settings: &Settings,
+) -> Result<Answer, AllocError>
+    ensures { IfOk result (AnswersSubject settings.now subject.now Waits) }
+{
+    let Subject {
+        plan,
+        pieces,
+        barriers,
+        ..
+    } = *subject;
+    if let Err(fault) = explain(alloc, plan, pieces, barriers, settings, Detail::First) {
+        return Answer::explain_fault(alloc, fault);
+    }
+    match group_waits(alloc, plan, pieces, settings.staging()) {
+        Ok(waits) => Ok(Answer::done(waits_text(alloc, &waits)?)),
+        Err(WaitsFault::Track(fault)) => untracked(alloc, fault),
+        Err(WaitsFault::Memory) => Answer::explain_fault(alloc, ExplainFault::Memory),
+    }
+}
+
+/// The answer for a plan of pieces in a form.
+pub(crate) fn answer_plan(
+    alloc: Global,
+    subject: &Subject<'_>,
+    settings: &Settings,
+    form: Form,
+) -> Result<Answer, AllocError>
+    ensures { IfOk result (AnswersSubject settings.now subject.now form) }
+{
+    match form {
+        Form::Words(detail) => answer_words(alloc, subject, settings, detail),
+        Form::Picture(range) => answer_picture(alloc, subject, settings, range),
+        Form::Json => answer_json(alloc, subject, settings),
+        Form::Waits => answer_waits(alloc, subject, settings),
+    }
+}

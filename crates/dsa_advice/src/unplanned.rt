@@ -1,0 +1,245 @@
+//! The message about operations that can't be planned: which operation is where, what it does, and which setting to
+//! change.
+
+ghost use Rattle.std.specs.Prelude.{IfOk};
+ghost use Rattle.dsa_advice.specs.Refusals.{IsRefusal};
+
+use crate::answer::Answer;
+use crate::origins::count_of;
+use crate::words::line_of_operation;
+use dsa_calls::PlanFault;
+use dsa_descriptor::{Descriptor, MOST_PIECES, RECORD_LEN};
+use dsa_plan::{STAGED_LEN, Settings};
+use dsa_ranges::{Span, meets};
+use dsa_splitter::SplitFault;
+use std::alloc::{AllocError, Global};
+
+/// Where operations come from.
+#[derive(Clone, Copy)]
+pub enum Source<'a> {
+    /// Lines of a text, with options.
+    Text(&'a [u8]),
+    /// The bytes of a list, with options.
+    List,
+    /// The list of a job, which has settings of its own.
+    Job,
+}
+
+/// The operations that were to be planned, and their settings.
+#[derive(Clone, Copy)]
+struct Given<'a> {
+    operations: &'a [Descriptor],
+    settings: &'a Settings,
+    source: Source<'a>,
+}
+
+/// An address of an operation that another range has too.
+#[derive(Clone, Copy)]
+struct Meeting {
+    /// What part of the operation it is.
+    what: &'static str,
+    address: u64,
+}
+
+impl Source<'_> {
+    /// How the address of the staging area is given.
+    fn staging(self) -> &'static str {
+        match self {
+            Source::Text(_) | Source::List => "--staging",
+            Source::Job => "`staging`",
+        }
+    }
+
+    /// How the greatest transfer is given.
+    fn transfer(self) -> &'static str {
+        match self {
+            Source::Text(_) | Source::List => "--greatest-transfer",
+            Source::Job => "`greatest_transfer`",
+        }
+    }
+}
+
+/// The operation that has the piece of this number.
+fn operation_of_piece(given: Given<'_>, piece: usize) -> usize {
+    let mut before: usize = 0;
+    for (index, d) in given.operations.iter().enumerate() {
+        before = before.saturating_add(count_of(d, given.settings));
+        if piece < before {
+            return index;
+        }
+    }
+    given.operations.len()
+}
+
+/// How many pieces there are.
+fn piece_total(given: Given<'_>) -> usize {
+    let mut total: usize = 0;
+    for d in given.operations {
+        total = total.saturating_add(count_of(d, given.settings));
+    }
+    total
+}
+
+/// Which operation is refused.
+fn operation_at_fault(given: Given<'_>, cause: SplitFault) -> usize {
+    match cause {
+        SplitFault::DeltaTooLong(index)
+        | SplitFault::ExpectedSplit(index)
+        | SplitFault::RowMeetsData(index)
+        | SplitFault::RowWrap(index) => index,
+        SplitFault::TooManyPieces => operation_of_piece(given, MOST_PIECES),
+        SplitFault::StagingMeets(piece) => operation_of_piece(given, piece),
+        SplitFault::Memory => given.operations.len(),
+    }
+}
+
+/// The bytes of so many entries from an address on.
+fn row(first: u64, entry: u64, count: usize) -> Span {
+    Span {
+        first,
+        len: entry.saturating_mul(count as u64),
+    }
+}
+
+/// The last address of a range.
+fn last_of(span: Span) -> u64 {
+    span.first.saturating_add(span.len.saturating_sub(1))
+}
+
+/// The first address that a range has with some of these.
+fn shared(area: Span, spans: &[Span], what: &'static str) -> Option<Meeting> {
+    for span in spans {
+        if meets(area, *span) {
+            let address = area.first.max(span.first);
+            return Some(Meeting { what, address });
+        }
+    }
+    None
+}
+
+/// An address at which the operation's data lies in a range.
+fn data_meeting(d: &Descriptor, area: Span) -> Option<Meeting> {
+    if let Some(meeting) = shared(area, &d.op.sources(d.size), "source") {
+        return Some(meeting);
+    }
+    shared(area, &d.op.targets(d.size), "destination")
+}
+
+/// An address at which the operation's data, or the records of so many pieces of it, lie in a range.
+fn operation_meeting(d: &Descriptor, count: usize, area: Span) -> Option<Meeting> {
+    if let Some(meeting) = data_meeting(d, area) {
+        return Some(meeting);
+    }
+    shared(
+        area,
+        &[row(d.record_at, RECORD_LEN, count)],
+        "completion record",
+    )
+}
+
+/// Writes where the operation meets the staging area.
+fn push_staging(
+    alloc: Global,
+    text: &mut String,
+    given: Given<'_>,
+    d: &Descriptor,
+) -> Result<(), AllocError> {
+    let option = given.source.staging();
+    let area = row(given.settings.staging(), STAGED_LEN, piece_total(given));
+    if let Some(Meeting { what, address }) = operation_meeting(
+        d,
+        count_of(d, given.settings),
+        area,
+    ) {
+        text.push_str(&format!(in alloc; "its {what} meets the staging area at 0x{address:x}; ")?)?;
+    }
+    let (first, last) = (area.first, last_of(area));
+    text.push_str(&format!(in alloc;
+        "the area is 0x{first:x} to 0x{last:x}, 96 bytes for each "
+    )?)?;
+    text.push_str(&format!(in alloc; "piece: choose another {option}")?)
+}
+
+/// Writes where the records of the operation's pieces meet its own data.
+fn push_row(
+    alloc: Global,
+    text: &mut String,
+    given: Given<'_>,
+    d: &Descriptor,
+) -> Result<(), AllocError> {
+    let (count, option) = (count_of(d, given.settings), given.source.transfer());
+    let records = row(d.record_at, RECORD_LEN, count);
+    let (first, last) = (records.first, last_of(records));
+    text.push_str(&format!(in alloc; "the records of its {count} pieces, 0x{first:x} to ")?)?;
+    text.push_str(&format!(in alloc; "0x{last:x}, meet its own ")?)?;
+    if let Some(Meeting { what, address }) = data_meeting(d, records) {
+        text.push_str(&format!(in alloc; "{what} at 0x{address:x}")?)?;
+    }
+    text.push_str(&format!(in alloc; ": move the record, or raise {option}")?)
+}
+
+/// Writes what is wrong with the operation, and what to change.
+fn push_cause(
+    alloc: Global,
+    text: &mut String,
+    given: Given<'_>,
+    d: &Descriptor,
+    cause: SplitFault,
+) -> Result<(), AllocError> {
+    let (size, record) = (d.size, d.record_at);
+    let (greatest, option) = (given.settings.greatest_transfer(), given.source.transfer());
+    match cause {
+        SplitFault::DeltaTooLong(_) => text.push_str(&format!(in alloc;
+            "a delta of {size} bytes is above the greatest transfer, {greatest}, and is not split: raise {option}"
+        )?),
+        SplitFault::ExpectedSplit(_) => text.push_str(&format!(in alloc;
+            "a compare that checks for a difference is not split, and {size} bytes are above the greatest transfer, {greatest}: raise {option}"
+        )?),
+        SplitFault::TooManyPieces => text.push_str(&format!(in alloc;
+            "with it there are more than 65,536 pieces of up to {greatest} bytes: raise {option}, or plan fewer operations"
+        )?),
+        SplitFault::StagingMeets(_) => push_staging(alloc, text, given, d),
+        SplitFault::RowMeetsData(_) => push_row(alloc, text, given, d),
+        SplitFault::RowWrap(_) => text.push_str(&format!(in alloc;
+            "the records of its pieces, 32 bytes each from 0x{record:x} on, would pass 2^64: move the record, or raise {option}"
+        )?),
+        SplitFault::Memory => Ok(()),
+    }
+}
+
+/// The message about operations that can't be split.
+fn words_of(alloc: Global, given: Given<'_>, cause: SplitFault) -> Result<String, AllocError> {
+    let mut text = String::new(alloc);
+    let index = operation_at_fault(given, cause);
+    if let Source::Text(lines) = given.source {
+        let line = line_of_operation(lines, index);
+        text.push_str(&format!(in alloc; "line {line}, ")?)?;
+    }
+    text.push_str(&format!(in alloc; "operation {index}: ")?)?;
+    if let Some(d) = given.operations.get(index) {
+        push_cause(alloc, &mut text, given, d, cause)?;
+    }
+    Ok(text)
+}
+
+/// The refusal of operations that can't be planned.
+pub fn refuse_unplanned(
+    alloc: Global,
+    operations: &[Descriptor],
+    settings: &Settings,
+    source: Source<'_>,
+    fault: PlanFault,
+) -> Result<Answer, AllocError>
+    ensures { IfOk result (IsRefusal fault) }
+{
+    let PlanFault::Split(cause) = fault else {
+        return Answer::fault(alloc, fault);
+    };
+    let given = Given {
+        operations,
+        settings,
+        source,
+    };
+    let words = words_of(alloc, given, cause)?;
+    Answer::fault_with(alloc, fault, &words)
+}

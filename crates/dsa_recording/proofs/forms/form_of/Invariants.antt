@@ -1,7 +1,0 @@
-use Rattle.std.proofs.Common.{◌≡◌, drop}
-use Rattle.dsa_recording.specs.Forms.{form_of}
-use Rattle.dsa_recording.proofs.forms.form_of.Given as goal
-
--- what is left has the form of the whole
-abbrev pub invariant-loop-byte : goal.invariant-loop-byte
-invariant-loop-byte l = form_of (drop l.byte-index l.text) ≡ form_of l.text

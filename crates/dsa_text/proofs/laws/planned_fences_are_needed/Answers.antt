@@ -1,5 +1,0 @@
-use Rattle.dsa_text.proofs.PlannedNeeded.{planned_needed}
-use Rattle.dsa_text.proofs.laws.planned_fences_are_needed.Goals as goal
-
-pub returns : goal.returns
-returns c = planned_needed

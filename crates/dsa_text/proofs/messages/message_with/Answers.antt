@@ -1,5 +1,0 @@
-use Rattle.dsa_text.proofs.Refused.{names_last}
-use Rattle.dsa_text.proofs.messages.message_with.Goals as goal
-
-pub returns : goal.returns
-returns c = names_last _ _ _ c.in_ok-push_name.ensures

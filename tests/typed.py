@@ -84,8 +84,8 @@ def barriers(text):
 
 def resumed(text):
     """What is left of a list by completion records, typed by hand: operations that are split, both orders, records in
-    each form and of another length, and a file of records that is not there; lists with barriers, and pieces that are
-    given up."""
+    each form and of another length, in a file or on standard input, and a file that is not there; lists with barriers,
+    and pieces that are given up."""
     fill = "fill 0x300000 with 0102030405060708, 64 bytes, record 0x8060\n"
     lines = "move 0x100000 -> 0x200000, 10000 bytes, record 0x8000\n" + fill
     first = "move 0x100000 -> 0x200000, 4096 bytes, record 0x8000\n"
@@ -99,6 +99,7 @@ def resumed(text):
             Path(folder, name).write_bytes(records)
             Path(folder, f"{name}.hex").write_text(records.hex() + "\n")
         Path(folder, "odd").write_bytes(b"\1" * 127)
+        Path(folder, "lines").write_text(lines)
         for name, more, wanted in (
             ("some", [], second + third),
             ("some.hex", [], second + third),
@@ -113,8 +114,13 @@ def resumed(text):
             ran = subprocess.run([text, *words], input=lines, capture_output=True, text=True)
             got = (ran.returncode, ran.stdout, ran.stderr)
             expect(got == (0, wanted, ""), f"{words}: wanted {wanted!r}, got {got}")
+            listed = [text, "resume", *short, *more, "--records", "-", f"{folder}/lines"]
+            ran = subprocess.run(listed, input=Path(folder, name).read_bytes(), capture_output=True)
+            got = (ran.returncode, ran.stdout.decode(), ran.stderr.decode())
+            expect(got == (0, wanted, ""), f"{name} on standard input, {more}: wanted {wanted!r}, got {got}")
         records = "there are not 32 bytes of completion records for each piece [112 Records]"
         sizes = "note: {} pieces have {} bytes of records, and these are {}\n".format
+        both = "error: the list and the records can't both come from standard input: name a file for one\n"
         for words, given, status, error in (
             ([*short, "--records", f"{folder}/odd"], lines, 1, f"error: {records}\n{sizes(4, 128, 127)}"),
             (["--records", f"{folder}/some"], lines, 1, f"error: {records}\n{sizes(2, 64, 128)}"),
@@ -123,6 +129,10 @@ def resumed(text):
             ([*short, "--give-up", "65536", "--records", f"{folder}/some"], lines, 1, "with commas between\n"),
             (["--greatest-transfer", "7", "--records", f"{folder}/some"], lines, 1, "[83 Settings]\n"),
             (["--records", f"{folder}/no"], lines, 2, f"{folder}/no can't be opened: there is no such file\n"),
+            (["--records", "-", f"{folder}/no"], "", 2, f"{folder}/no can't be opened: there is no such file\n"),
+            ([*short, "--records", "-", f"{folder}/lines"], "", 1, f"error: {records}\n{sizes(4, 128, 0)}"),
+            (["--records", "-"], lines, 2, both),
+            (["--records", "-", "-"], lines, 2, both),
             ([], lines, 2, "For more information, try '--help'.\n"),
         ):
             ran = subprocess.run([text, "resume", *words], input=given, capture_output=True, text=True)

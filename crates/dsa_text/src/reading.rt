@@ -43,12 +43,17 @@ fn unopened(kind: io::ErrorKind) -> NoText {
     }
 }
 
-/// The file that the arguments name; none if that is standard input, which `-` stands for.
-pub(crate) fn file_in<'a>(matches: &ArgMatches<'a>) -> Option<&'a str> {
-    match matches.get_str("file") {
+/// The file that this argument names; none if that is standard input, which `-` stands for.
+pub(crate) fn file_of<'a>(matches: &ArgMatches<'a>, name: &str) -> Option<&'a str> {
+    match matches.get_str(name) {
         Some("-") | None => None,
         Some(path) => Some(path),
     }
+}
+
+/// The file that a command reads; none if that is standard input.
+pub(crate) fn file_in<'a>(matches: &ArgMatches<'a>) -> Option<&'a str> {
+    file_of(matches, "file")
 }
 
 /// An open file.

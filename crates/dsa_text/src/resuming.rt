@@ -7,10 +7,10 @@ ghost use Rattle.dsa_text.specs.Resumed.{IsRestText, IsResumeRefusal, NamesResum
 
 use crate::assembling::passed_over;
 use crate::commands::{file, flag, keep_fences, settings_options};
-use crate::ending::{ended, without_text};
+use crate::ending::{ended, failed, without_text};
 use crate::inputs::refused_settings;
 use crate::options::settings_words;
-use crate::reading::{file_in, input};
+use crate::reading::{file_in, file_of, input};
 use clap::{Arg, ArgAction, ArgMatches, Command};
 use dsa_advice::{
     Answer, bytes_or_refusal, joined, numbers_of, push_indices, push_sentence, resume_notes,
@@ -39,11 +39,17 @@ explain and assemble), give that option here too.
 A list in which an operation writes into the completion record of another is refused, since such a record does not
 say how its own operation has ended. So are records by which a piece has begun although another has not succeeded and
 a barrier is between them.
-Example: dsa_text resume --records records.hex store.txt";
+Examples:
+  dsa_text resume --records records.hex store.txt
+  dsa_text resume --records - store.txt < records.bin";
 
 /// What is said of other words after the option.
 const NO_PIECES: &str =
     "error: --give-up takes the numbers of pieces below 65536, with commas between\n";
+
+/// What is said if the list and the records are both to come from standard input.
+const ONE_INPUT: &str =
+    "error: the list and the records can't both come from standard input: name a file for one\n";
 
 /// The command `resume`.
 pub(crate) fn resume_command<'a>(alloc: Global) -> Result<Command<'a>, AllocError> {
@@ -53,7 +59,7 @@ pub(crate) fn resume_command<'a>(alloc: Global) -> Result<Command<'a>, AllocErro
         .value_name("FILE")
         .action(ArgAction::Set)
         .required(true)
-        .help("the completion records of the pieces");
+        .help("the completion records of the pieces; standard input where it is -");
     let given_up = Arg::new(alloc, "give-up")
         .long("give-up")
         .value_name("PIECES")
@@ -267,7 +273,10 @@ pub(crate) fn run_resume(
     rt: &HostRuntime,
     matches: &ArgMatches<'_>,
 ) -> Result<ExitCode, AllocError> {
-    let file = matches.get_str("records");
+    let file = file_of(matches, "records");
+    if file.is_none() && file_in(matches).is_none() {
+        return Ok(failed(rt, ONE_INPUT));
+    }
     match input(rt, file) {
         Ok(records) => resumed(rt, matches, &records),
         Err(reason) => without_text(rt, file, reason),

@@ -1,5 +1,5 @@
 -- What explaining a plan of pieces answers (this project's choice).
-use Rattle.std.specs.Prelude.{◌≡◌, ◌<◌, ◌≤◌, ℕ, Bool, List, [], ◌++◌, codes, decimal, length, map, string_bytes, Option, Err, if◌then◌else◌}
+use Rattle.std.specs.Prelude.{◌≡◌, ◌+◌, ◌-◌, ◌<◌, ◌≤◌, ℕ, nat_lt, Bool, List, [], ◌∷◌, ◌++◌, codes, decimal, length, map, string_bytes, Option, Err, if◌then◌else◌}
 use Rattle.dsa_descriptor.specs.declared.descriptor.Descriptor.{Descriptor}
 use Rattle.dsa_descriptor.specs.Descriptors.{fields}
 use Rattle.dsa_sentences.specs.declared.causes.TextCause.TheVariants.{Picture as Large}
@@ -47,6 +47,13 @@ form_of range svg json waits all =
 abbrev pub most_rows : ℕ
 most_rows = 1024
 
+-- how many groups have one of the pieces from the first to the last, both counted from the first group on
+abbrev pub drawn_groups : ℕ → ℕ → Plan → ℕ
+drawn_groups first last [] = 0
+drawn_groups first last (group ∷ groups) =
+    if nat_lt last (length group) then (if nat_lt last first then 0 else 1)
+    else ((if nat_lt first (length group) then 1 else 0) + drawn_groups (first - length group) (last - length group) groups)
+
 -- the labels of pieces that are of no known operations
 abbrev pub unlabelled : Labelling
 unlabelled = record { origins = []; names = [] }
@@ -65,10 +72,10 @@ pub record SpellsPlan (s : Limits) (plan : Plan) (pieces : List Descriptor) (bar
   pub is : IsExplanationOf s Every pieces barriers plan explanation
   pub line : text ≡ explanation_line explanation pieces labels least
 
--- the text is a picture, and the plan can be explained and has few groups
-pub record DrawsPlan (s : Limits) (plan : Plan) (pieces : List Descriptor) (barriers : List Bool) (text : List ℕ) : Type 0 where
+-- the text is a picture, the plan can be explained, and few of its groups are drawn
+pub record DrawsPlan (range : PieceRange) (s : Limits) (plan : Plan) (pieces : List Descriptor) (barriers : List Bool) (text : List ℕ) : Type 0 where
   pub can : CanBeExplained s pieces barriers plan
-  pub few : length plan ≤ most_rows
+  pub few : drawn_groups range.first range.last plan ≤ most_rows
   pub picture : IsPicture text
 
 -- the text says what each group waits for, and the plan can be explained
@@ -82,14 +89,14 @@ pub record TellsWaits (s : Limits) (plan : Plan) (pieces : List Descriptor) (bar
 -- the plan in a form
 abbrev pub ShowsPlan : Form → Limits → Plan → List Descriptor → List Bool → Labelling → Option ℕ → List ℕ → Type 0
 ShowsPlan (Words detail) s plan pieces barriers labels least text = TellsPlan s detail plan pieces barriers labels text
-ShowsPlan (Picture range) s plan pieces barriers labels least text = DrawsPlan s plan pieces barriers text
+ShowsPlan (Picture range) s plan pieces barriers labels least text = DrawsPlan range s plan pieces barriers text
 ShowsPlan Json s plan pieces barriers labels least text = SpellsPlan s plan pieces barriers labels least text
 ShowsPlan Waits s plan pieces barriers labels least text = TellsWaits s plan pieces barriers text
 
--- the message if a plan has too many groups to draw
+-- the message if too many groups are to be drawn
 abbrev pub too_many_groups : ℕ → List ℕ
 too_many_groups groups =
-    codes "error: " ++ (decimal groups ++ (codes " groups, a picture has 1024 at most" ++ ending_of Large))
+    codes "error: " ++ (decimal groups ++ (codes " groups, a picture has 1024 at most (--from N --to M draws some)" ++ ending_of Large))
 
 -- the message if a tracker refuses the groups
 abbrev pub untracked : TrackFault → List ℕ
@@ -97,12 +104,12 @@ untracked fault =
     codes "error: a tracker with 64 slots refuses the groups" ++ (codes " [" ++ (decimal (track_number fault) ++ (codes " " ++ (track_name fault ++ codes "]\n"))))
 
 -- A plan that can be explained is shown, with status 0. A plan is refused if it can't be explained, for
--- the cause that `explain` finds, if it has too many groups to draw, or if a tracker refuses its groups.
+-- the cause that `explain` finds, if too many of its groups are to be drawn, or if a tracker refuses its groups.
 pub data AnswersPlan (s : Limits) (plan : Plan) (pieces : List Descriptor) (barriers : List Bool) (labels : Labelling) (least : Option ℕ) (form : Form) (a : Answer) : Type 0 where
   is_shown : a.status ≡ 0 → ShowsPlan form s plan pieces barriers labels least (string_bytes a.text) → AnswersPlan s plan pieces barriers labels least form a
   is_unfit : (fault : ExplainFault) → Explains s (detail_of form) pieces barriers plan (Err fault) → IsRefusal (explain_cause fault) a → AnswersPlan s plan pieces barriers labels least form a
-  is_too_large : (range : PieceRange) → form ≡ Picture range → CanBeExplained s pieces barriers plan → most_rows < length plan → a.status ≡ 1
-      → string_bytes a.text ≡ too_many_groups (length plan) → AnswersPlan s plan pieces barriers labels least form a
+  is_too_large : (range : PieceRange) → form ≡ Picture range → CanBeExplained s pieces barriers plan → most_rows < drawn_groups range.first range.last plan → a.status ≡ 1
+      → string_bytes a.text ≡ too_many_groups (drawn_groups range.first range.last plan) → AnswersPlan s plan pieces barriers labels least form a
   is_untracked : (fault : TrackFault) → form ≡ Waits → CanBeExplained s pieces barriers plan → RefusesWaits s.staging plan (map fields pieces) (Track fault)
       → a.status ≡ 1 → string_bytes a.text ≡ untracked fault → AnswersPlan s plan pieces barriers labels least form a
 

@@ -5,7 +5,7 @@ ghost use Rattle.dsa_explain.specs.Explained.{Explains};
 ghost use Rattle.dsa_reasons.specs.declared.fences.Detail.TheVariants.{All as Every};
 ghost use Rattle.dsa_advice.specs.declared.form.Form.TheVariants.{Json, Picture, Waits, Words};
 ghost use Rattle.dsa_explain.specs.Runs.{labelling};
-ghost use Rattle.dsa_advice.specs.Shown.{AnswersSubject, SpellsPlan, TellsPlan, too_many_groups, unlabelled, untracked};
+ghost use Rattle.dsa_advice.specs.Shown.{AnswersSubject, SpellsPlan, TellsPlan, drawn_groups, too_many_groups, unlabelled, untracked};
 
 use crate::answer::Answer;
 use crate::form::Form;
@@ -14,7 +14,7 @@ use dsa_explain::{
     Buffer, Detail, ExplainFault, Labels, MOST_ROWS, Origin, PieceRange, View, WaitsFault, draw,
     explain, explanation_line, explanation_text, group_waits, waits_text,
 };
-use dsa_plan::{Plan, Settings};
+use dsa_plan::{Group, Plan, Settings};
 use dsa_sentences::TextCause;
 use dsa_tracker::TrackFault;
 use std::alloc::{AllocError, Global};
@@ -142,12 +142,37 @@ fn answer_json(
     }
 }
 
-/// The refusal of a plan that has too many groups to draw.
+/// How many groups have a piece in the range.
+fn drawn_groups(groups: &[Group], range: PieceRange) -> usize
+    ensures { result ≡ drawn_groups range.first range.last groups.now }
+{
+    let PieceRange {
+        mut first,
+        mut last,
+    } = range;
+    let mut drawn = 0;
+    let mut rest = groups;
+    while let [group, after @ ..] = rest {
+        let size = group.len() as u64;
+        if last < size {
+            return drawn + usize::from(first <= last);
+        }
+        drawn += usize::from(first < size);
+        first = first.saturating_sub(size);
+        last -= size;
+        rest = after;
+    }
+    drawn
+}
+
+/// The refusal of a plan of which too many groups are to be drawn.
 fn too_many_groups(alloc: Global, groups: usize) -> Result<Answer, AllocError>
     ensures status { IfOk result (λ a. a.status ≡ 1) }
     ensures text { IfOk result (λ a. string_bytes a.text ≡ too_many_groups groups) }
 {
-    let mut text = format!(in alloc; "error: {groups} groups, a picture has 1024 at most")?;
+    let mut text = format!(in alloc;
+        "error: {groups} groups, a picture has 1024 at most (--from N --to M draws some)"
+    )?;
     text.push_str(TextCause::Picture.ending())?;
     Ok(Answer::refused(text))
 }
@@ -173,7 +198,7 @@ fn answer_picture(
         Ok(explanation) => explanation,
         Err(fault) => return Answer::explain_fault(alloc, fault),
     };
-    let groups = plan.groups().len();
+    let groups = drawn_groups(plan.groups(), range);
     if groups > MOST_ROWS {
         return too_many_groups(alloc, groups);
     }

@@ -281,7 +281,7 @@ enum dsa_number {
     /* piece `second` has begun, piece `first` has not succeeded, a barrier is between: restore memory, run the
        whole list */
     DSA_PASSED_BARRIER = 115,
-    /* no slot is free: complete a submission first */
+    /* no slot is free (a tracker has at most 64): complete a submission first */
     DSA_NO_SLOT = 120,
     /* the submission may read or write `first` spans, more than the tracker keeps of one */
     DSA_TOO_MANY_SPANS = 121,
@@ -299,7 +299,7 @@ enum dsa_number {
     /* the groups of the plan do not have as many pieces as there are; no call from C has it, since a portal tells
        its groups and their pieces */
     DSA_OTHER_PLAN = 127,
-    /* the plan has `first` groups, more than slots are free or have a place in the array */
+    /* the plan has `first` groups, more than slots are free (of at most 64) or have a place in the array */
     DSA_FEW_SLOTS = 128
 };
 

@@ -189,7 +189,7 @@ causes! {
     /// Piece `second` has begun, piece `first` has not succeeded, a barrier is between: restore memory, run
     /// the whole list.
     PassedBarrier = 115,
-    /// No slot is free: complete a submission first.
+    /// No slot is free (a tracker has at most 64): complete a submission first.
     NoSlot = 120,
     /// The submission may read or write `first` spans, more than the tracker keeps of one.
     TooManySpans = 121,
@@ -207,7 +207,7 @@ causes! {
     /// The groups of the plan do not have as many pieces as there are; no call from C has it, since a
     /// portal tells its groups and their pieces.
     OtherPlan = 127,
-    /// The plan has `first` groups, more than slots are free or have a place in the array.
+    /// The plan has `first` groups, more than slots are free (of at most 64) or have a place in the array.
     FewSlots = 128,
 }
 

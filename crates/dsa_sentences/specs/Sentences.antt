@@ -111,7 +111,7 @@ of_buffers n =
 -- of trackers
 unfoldable pub of_trackers : ℕ → List ℕ
 of_trackers n =
-    if n == 120 then codes "no slot is free: complete a submission first" else
+    if n == 120 then codes "no slot is free (a tracker has at most 64): complete a submission first" else
     if n == 121 then codes "the submission may read or write # spans, more than the tracker keeps of one" else
     if n == 122 then codes "slot # has no outstanding submission" else
     if n == 123 then codes "the submission of slot # still waits for another" else
@@ -119,7 +119,7 @@ of_trackers n =
     if n == 125 then codes "piece # has another PASID or privilege than the first piece that came" else
     if n == 126 then codes "the words do not have the form of a tracker, or are too few for one of these measures" else
     if n == 127 then codes "the groups of the plan do not have as many pieces as there are" else
-    if n == 128 then codes "the plan has # groups, more than slots are free or have a place in the array" else
+    if n == 128 then codes "the plan has # groups, more than slots are free (of at most 64) or have a place in the array" else
     []
 
 -- of texts and pictures

@@ -169,7 +169,7 @@ fn of_trackers(number: u64) -> &'static str
     ensures short { longest result.now ≤ 250 }
 {
     match number {
-        120 => "no slot is free: complete a submission first",
+        120 => "no slot is free (a tracker has at most 64): complete a submission first",
         121 => "the submission may read or write # spans, more than the tracker keeps of one",
         122 => "slot # has no outstanding submission",
         123 => "the submission of slot # still waits for another",
@@ -178,7 +178,8 @@ fn of_trackers(number: u64) -> &'static str
         126 =>
             "the words do not have the form of a tracker, or are too few for one of these measures",
         127 => "the groups of the plan do not have as many pieces as there are",
-        128 => "the plan has # groups, more than slots are free or have a place in the array",
+        128 =>
+            "the plan has # groups, more than slots are free (of at most 64) or have a place in the array",
         _ => "",
     }
 }

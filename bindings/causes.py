@@ -19,7 +19,7 @@ BESIDE = {
     60: "`inner` is the cause, and the places are its own",
     66: "only where the list is given too",
     83: "`first` is the number of the setting, from 1 on in the order of the settings, and 8 for the table",
-    126: "of dsa_track_begin `first` is the measure: 1 slots, 3 log2_rows, 4 log2_unit, 5 words",
+    126: "of a new tracker `first` is the measure: 1 slots, 3 log2_rows, 4 log2_unit, 5 words",
     127: "no call from C has it, since a portal tells its groups and their pieces",
 }
 

@@ -186,11 +186,12 @@ KEPT = "operation 0: page fault at AT (write, status 0x{}); make the page presen
 KEPT += "restore what the list has changed, and run it again\n"
 CHECKED = "operation {}: the check failed, {}; nothing after the next barrier was begun\n"
 DELTA = "operation 0: the offsets of the delta {}; correct the delta\n"
-OVERLAP = "operation 0: its source and its target overlap, and this device can't move that; use memmove\n"
+OVERLAP = "operation 0: its source and its target overlap, and this device can't move that; let the processor do "
+OVERLAP += "it\n"
 OVERLAPS_NOW = "operation {}: its source and its target overlap where it was placed, and this device can't move that; "
 OVERLAPS_NOW += "place it elsewhere\n"
-NOT_THERE = "dsa_list_place: there is no operation 2, and nothing was placed; place all of the list's 2 in order, from "
-NOT_THERE += "0, or prepare or clear it\n"
+NOT_THERE = "there is no operation 2 to place, and nothing was placed; place all of the list's 2 in order, from 0, or "
+NOT_THERE += "prepare or clear it\n"
 FULL = "{} has not accepted an entry for {} ms, and nothing more was begun; it is enabled\n"
 SILENT = QUEUES[0] + " has not answered for {} ms; it is {}; leave the buffers as they are, since the device may still "
 SILENT += "use them\n"
@@ -212,7 +213,7 @@ SAID = {
     "refused 8: descriptor 0: the low twelve bits of a dualcast's destinations differ\n" + DONE,
     "misplaced": 2 * (NOT_THERE + DONE + DONE),
     "again": DONE,
-    "polled": "the queue was opened without DSA_QUEUE_IN_FLIGHT; open it with this flag, or use dsa_list_run\n",
+    "polled": "the queue was not opened for lists in flight; open it for them, or run the list\n",
     "forked": 2 * "this process is a child of fork, and the queue is its parent's; open a queue here\n" + DONE,
 }
 

@@ -293,7 +293,7 @@ enum dsa_number {
     DSA_SPAN_WRAP = 124,
     /* piece `first` has another PASID or privilege than the first piece that came */
     DSA_OTHER_OWNER = 125,
-    /* the words do not have the form of a tracker, or are too few for one of these measures; of dsa_track_begin
+    /* the words do not have the form of a tracker, or are too few for one of these measures; of a new tracker
        `first` is the measure: 1 slots, 3 log2_rows, 4 log2_unit, 5 words */
     DSA_NOT_A_TRACKER = 126,
     /* the groups of the plan do not have as many pieces as there are; no call from C has it, since a portal tells

@@ -1,4 +1,5 @@
-/* How a list has ended: the result of each operation, and a sentence that says what happened and what to do. */
+/* How a list has ended: the result of each operation, and a sentence that says what happened and what to do. The
+ * sentences name no call: they are also those of the crate and the Python module. */
 #include <errno.h>
 #include <stdarg.h>
 #include <stdio.h>
@@ -113,12 +114,12 @@ static void why_refused(const struct dsa_list *list, char why[DSA_WHY_ROOM])
                 (unsigned long long)list->size_at_fault);
         break;
     case MAY_NOT_OVERLAP:
-        why_not(why, "operation %u: its source and its target overlap, and this device can't move that; use memmove",
-                i);
+        why_not(why, "operation %u: its source and its target overlap, and this device can't move that; let the "
+                "processor do it", i);
         break;
     case NOT_THERE:
-        why_not(why, "dsa_list_place: there is no operation %d, and nothing was placed; place all of the list's %u in "
-                "order, from 0, or prepare or clear it", list->at_misplaced, list->operations);
+        why_not(why, "there is no operation %d to place, and nothing was placed; place all of the list's %u in order, "
+                "from 0, or prepare or clear it", list->at_misplaced, list->operations);
         break;
     case OVERLAPS_NOW:
         why_not(why, "operation %d: its source and its target overlap where it was placed, and this device can't move "
@@ -128,10 +129,10 @@ static void why_refused(const struct dsa_list *list, char why[DSA_WHY_ROOM])
         why_not(why, in_child);
         break;
     case NOT_TRACKED:
-        why_not(why, "the queue was opened without DSA_QUEUE_IN_FLIGHT; open it with this flag, or use dsa_list_run");
+        why_not(why, "the queue was not opened for lists in flight; open it for them, or run the list");
         break;
     case AFTER_FAILED:
-        why_not(why, "a list that this one comes after has not succeeded; dsa_list_why of that one says what to do");
+        why_not(why, "a list that this one comes after has not succeeded; that one says why, and what to do");
         break;
     case AFTER_LOST:
         why_not(why, "a list that this one has to wait for is lost; use other buffers");
@@ -203,7 +204,7 @@ char *dsa_list_why(const struct dsa_list *list, char why[DSA_WHY_ROOM])
     if (!room_is_own(queue)) /* it has no records either */
         return why_not(why, in_child), why;
     if (list->end == DSA_LIST_RUNNING)
-        return why_not(why, "the list is in flight; dsa_list_wait waits until it has ended"), why;
+        return why_not(why, "the list is in flight; wait until it has ended"), why;
     switch (list->reason) {
     case NO_REASON:
         why_not(why, "all operations have succeeded");

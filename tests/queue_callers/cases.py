@@ -121,7 +121,7 @@ def refusals():
     raised(ValueError, "several sizes (source 63, target 64 bytes)", it.move, fixed[:63], a)
     raised(ValueError, "a pattern is -1", it.fill, a, -1)
     raised(ValueError, "the descriptor has 63 bytes", it.add, bytes(63))
-    raised(Refused, "without DSA_QUEUE_IN_FLIGHT", lambda: (it.fill(a, 0), it.start()))
+    raised(Refused, "not opened for lists in flight", lambda: (it.fill(a, 0), it.start()))
     expect(is_locked(a), "an array of a list can't be resized")
     it.clear()
     expect(not is_locked(a), "an array that was refused, or of a list that was cleared, is free")

@@ -201,8 +201,8 @@ causes! {
     SpanWrap = 124,
     /// Piece `first` has another PASID or privilege than the first piece that came.
     OtherOwner = 125,
-    /// The words do not have the form of a tracker, or are too few for one of these measures; of
-    /// dsa_track_begin `first` is the measure: 1 slots, 3 log2_rows, 4 log2_unit, 5 words.
+    /// The words do not have the form of a tracker, or are too few for one of these measures; of a new
+    /// tracker `first` is the measure: 1 slots, 3 log2_rows, 4 log2_unit, 5 words.
     NotATracker = 126,
     /// The groups of the plan do not have as many pieces as there are; no call from C has it, since a
     /// portal tells its groups and their pieces.

@@ -139,7 +139,7 @@ pub struct Refusal {
     /// The cause within: of [`Cause::Plan`] that of the plan's fault, of [`Cause::Entry`] that of the piece's.
     pub inner: Option<Cause>,
     /// The first index that the cause names, else 0; of [`Cause::Settings`] the number of a setting that is outside its limits
-    /// (1 to 7 are the members of `struct dsa_settings` in their order, 8 is a table of prices by size), of [`Cause::NoRoom`] the bytes that `portal` needs, of
+    /// (2 to 7 are the members of [`Settings`] in their order, 8 is a table of prices by size), of [`Cause::NoRoom`] the bytes that `portal` needs, of
     /// [`Cause::NoRoomForCertificate`] the number of pieces, of [`Cause::NoRoomForRows`] that of rows.
     pub first: u64,
     /// The second, else 0; of [`Cause::NoRoom`] the bytes that `staging` needs.

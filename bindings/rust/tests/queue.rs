@@ -165,7 +165,7 @@ fn what_is_refused() {
         refused(list.apply_delta(a.part(9..99), b)),
         "the list owns no such part"
     );
-    let start = "the queue was opened without DSA_QUEUE_IN_FLIGHT; open it with this flag, or use dsa_list_run";
+    let start = "the queue was not opened for lists in flight; open it for them, or run the list";
     list.fill(a, 0).unwrap();
     assert_eq!(refused(list.start().map(|()| 0)), start);
     for _ in 0..7 {
@@ -250,7 +250,8 @@ fn left_out() {
     one.check(zero, ones).unwrap();
     one.start().unwrap();
     two.start_after(&[&one]).unwrap();
-    let why = "a list that this one comes after has not succeeded; dsa_list_why of that one says what to do";
+    let why =
+        "a list that this one comes after has not succeeded; that one says why, and what to do";
     assert_eq!(two.wait(), Err(Error::LeftOut(why.into())));
     assert_eq!(two[b], [0; 64]);
     assert!(matches!(

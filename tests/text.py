@@ -407,7 +407,7 @@ def shared_records():
     many = [(0x10_0000 + 0x100 * k, 0x20_0000 + 0x100 * k, 64, 0x8000) for k in range(25)]
     found, rest = warned(many)
     wanted = [(k, 0, 1, 0x8000, 0x801F, 0x8000 + 32 * k) for k in range(1, 21)]
-    more = "warning: 4 more operations have a record in the row of another\n"
+    more = "note: and 4 more operations with a record in the row of another\n"
     common.expect((found, rest) == (wanted, more), f"25 operations with one record: {found}, {rest!r}")
     for form in ("--json", "--svg", "--all", "--waits"):
         common.expect(warned(many, form) == (wanted, more), f"explain {form} has other warnings: {warned(many, form)}")

@@ -1,5 +1,6 @@
 //! The values that are at fault in an operation that can't be listed.
 
+use crate::notes::push_span;
 use dsa_descriptor::{FieldFault, Op, Span, op_at, record_span, u32_at, u64_at};
 use dsa_ranges::meets;
 use std::alloc::{AllocError, Global};
@@ -40,12 +41,6 @@ fn push_flags(alloc: Global, text: &mut String, entry: &[u8; 64]) -> Result<(), 
     }
     let high = flags & 0xff_0000;
     text.push_str(&format!(in alloc; ": 0x{high:06x} (reserved) is set")?)
-}
-
-/// Writes the addresses of a span, the first and the last.
-fn push_span(alloc: Global, text: &mut String, span: Span) -> Result<(), AllocError> {
-    let (first, last) = (span.first, span.end().saturating_sub(1));
-    text.push_str(&format!(in alloc; "0x{first:x} to 0x{last:x}")?)
 }
 
 /// Writes two ranges that share an address.

@@ -1,9 +1,16 @@
 //! Notes and warnings about operations beside an answer.
 
+use dsa_descriptor::Span;
 use std::alloc::{AllocError, Global};
 
 /// The most lines that are written.
 const MOST_WRITTEN: usize = 20;
+
+/// Writes the addresses of a span, the first and the last.
+pub(crate) fn push_span(alloc: Global, text: &mut String, span: Span) -> Result<(), AllocError> {
+    let (first, last) = (span.first, span.end().saturating_sub(1));
+    text.push_str(&format!(in alloc; "0x{first:x} to 0x{last:x}")?)
+}
 
 /// Lines about operations: the first ones are written, the others are counted.
 #[derive(Drop)]

@@ -1,7 +1,7 @@
 //! Warnings about operations whose data meets the completion records of others: data that they write, and data that
 //! they read before a record is written there.
 
-use crate::notes::Notes;
+use crate::notes::{Notes, push_span};
 use crate::rows::{Row, rows_of};
 use dsa_descriptor::{Descriptor, Span};
 use dsa_plan::Settings;
@@ -77,21 +77,19 @@ fn read_before(
 
 /// The line of an operation whose data meets the records of another.
 fn line_of(alloc: Global, operation: usize, meeting: Meeting) -> Result<String, AllocError> {
-    let (data, row) = (meeting.data, meeting.row.span());
-    let (first, last) = (data.first, data.end().saturating_sub(1));
     let holder = meeting.row.operation;
     let does = if meeting.is_written {
         "writes"
     } else {
         "reads"
     };
-    let mut line = format!(in alloc;
-        "warning: operation {operation} {does} data at 0x{first:x} to 0x{last:x}, and operation "
-    )?;
-    let (first, last) = (row.first, row.end().saturating_sub(1));
+    let mut line = format!(in alloc; "warning: operation {operation} {does} data at ")?;
+    push_span(alloc, &mut line, meeting.data)?;
     line.push_str(&format!(in alloc;
-        "{holder} writes its completion records at 0x{first:x} to 0x{last:x}\n"
+        ", and operation {holder} writes its completion records at "
     )?)?;
+    push_span(alloc, &mut line, meeting.row.span())?;
+    line.push_str("\n")?;
     Ok(line)
 }
 

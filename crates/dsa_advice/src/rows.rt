@@ -1,12 +1,10 @@
 //! Warnings about operations whose completion records are in the row of another's.
 
+use crate::notes::{Notes, push_span};
 use crate::origins::count_of;
 use dsa_descriptor::{Descriptor, RECORD_LEN, Span};
 use dsa_plan::{STAGED_LEN, Settings};
 use std::alloc::{AllocError, Global};
-
-/// The most operations that are named.
-const MOST_NAMED: usize = 20;
 
 /// The records of an operation, one for each of its pieces.
 #[derive(Clone, Copy)]
@@ -114,33 +112,23 @@ fn free_from(taken: &[Span], from: u128, len: u64) -> Option<u64> {
     u64::try_from(first).ok()
 }
 
-/// Writes which operation's record lies where, and the address to use in its place.
-fn push_shared(
-    alloc: Global,
-    text: &mut String,
-    shared: &Shared,
-    free: Option<u64>,
-) -> Result<(), AllocError> {
+/// The line of an operation whose record is in the row of another, with the address to use in its place.
+fn line_of(alloc: Global, shared: &Shared, free: Option<u64>) -> Result<String, AllocError> {
     let (operation, holder, records) = (
         shared.own.operation,
         shared.holder.operation,
         shared.holder.records,
     );
     let plural = if records == 1 { "" } else { "s" };
-    let area = shared.holder.span();
-    let (first, last) = (
-        area.first,
-        area.first.saturating_add(area.len.saturating_sub(1)),
-    );
-    text.push_str(&format!(in alloc;
-        "warning: operation {operation}'s record is in the row of "
-    )?)?;
-    text.push_str(&format!(in alloc; "operation {holder} ({records} record{plural}, ")?)?;
-    text.push_str(&format!(in alloc; "0x{first:x} to 0x{last:x})")?)?;
+    let mut line = format!(in alloc; "warning: operation {operation}'s record is in the row of ")?;
+    line.push_str(&format!(in alloc; "operation {holder} ({records} record{plural}, ")?)?;
+    push_span(alloc, &mut line, shared.holder.span())?;
+    line.push_str(")")?;
     if let Some(address) = free {
-        text.push_str(&format!(in alloc; ": use 0x{address:x}")?)?;
+        line.push_str(&format!(in alloc; ": use 0x{address:x}")?)?;
     }
-    text.push_str("\n")
+    line.push_str("\n")?;
+    Ok(line)
 }
 
 /// A line for each operation whose record is in the row of another, up to 20, and how many more there are; none if each
@@ -156,22 +144,17 @@ pub(crate) fn warnings_of(
         return Ok(None);
     }
     let mut taken = taken_by(alloc, operations, &rows, settings)?;
-    let mut text = String::new(alloc);
-    for it in shared.iter().take(MOST_NAMED) {
-        let len = it.own.span().len;
-        let free = free_from(&taken, it.holder.span().end(), len);
-        push_shared(alloc, &mut text, it, free)?;
-        if let Some(first) = free {
-            taken.push(Span { first, len })?;
-            taken.sort_unstable_by_key(|span| span.first);
+    let mut notes = Notes::new(alloc);
+    for it in &shared {
+        if notes.count() {
+            let len = it.own.span().len;
+            let free = free_from(&taken, it.holder.span().end(), len);
+            notes.write(&line_of(alloc, it, free)?)?;
+            if let Some(first) = free {
+                taken.push(Span { first, len })?;
+                taken.sort_unstable_by_key(|span| span.first);
+            }
         }
     }
-    if shared.len() > MOST_NAMED {
-        let more = shared.len() - MOST_NAMED;
-        let line = format!(in alloc;
-            "warning: {more} more operations have a record in the row of another\n"
-        )?;
-        text.push_str(&line)?;
-    }
-    Ok(Some(text))
+    notes.into_text(alloc, "operations with a record in the row of another")
 }

@@ -5,6 +5,7 @@ ghost use Rattle.std.specs.Prelude.{IfOk};
 ghost use Rattle.dsa_advice.specs.Refusals.{IsRefusal};
 
 use crate::answer::Answer;
+use crate::notes::push_span;
 use crate::origins::count_of;
 use crate::words::line_of_operation;
 use dsa_calls::PlanFault;
@@ -101,11 +102,6 @@ fn row(first: u64, entry: u64, count: usize) -> Span {
     }
 }
 
-/// The last address of a range.
-fn last_of(span: Span) -> u64 {
-    span.first.saturating_add(span.len.saturating_sub(1))
-}
-
 /// The first address that a range has with some of these.
 fn shared(area: Span, spans: &[Span], what: &'static str) -> Option<Meeting> {
     for span in spans {
@@ -153,11 +149,9 @@ fn push_staging(
     ) {
         text.push_str(&format!(in alloc; "its {what} meets the staging area at 0x{address:x}; ")?)?;
     }
-    let (first, last) = (area.first, last_of(area));
-    text.push_str(&format!(in alloc;
-        "the area is 0x{first:x} to 0x{last:x}, 96 bytes for each "
-    )?)?;
-    text.push_str(&format!(in alloc; "piece: choose another {option}")?)
+    text.push_str("the area is ")?;
+    push_span(alloc, text, area)?;
+    text.push_str(&format!(in alloc; ", 96 bytes for each piece: choose another {option}")?)
 }
 
 /// Writes where the records of the operation's pieces meet its own data.
@@ -169,9 +163,9 @@ fn push_row(
 ) -> Result<(), AllocError> {
     let (count, option) = (count_of(d, given.settings), given.source.transfer());
     let records = row(d.record_at, RECORD_LEN, count);
-    let (first, last) = (records.first, last_of(records));
-    text.push_str(&format!(in alloc; "the records of its {count} pieces, 0x{first:x} to ")?)?;
-    text.push_str(&format!(in alloc; "0x{last:x}, meet its own ")?)?;
+    text.push_str(&format!(in alloc; "the records of its {count} pieces, ")?)?;
+    push_span(alloc, text, records)?;
+    text.push_str(", meet its own ")?;
     if let Some(Meeting { what, address }) = data_meeting(d, records) {
         text.push_str(&format!(in alloc; "{what} at 0x{address:x}")?)?;
     }

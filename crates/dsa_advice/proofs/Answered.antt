@@ -20,7 +20,7 @@ use Rattle.dsa_explain.specs.declared.explanation.ExplainFault.{ExplainFault}
 use Rattle.dsa_explain.specs.Explained.{Explains}
 use Rattle.dsa_advice.specs.declared.answer.Answer.{Answer}
 use Rattle.dsa_advice.specs.Refusals.{IsRefusal, NamesCause, explain_cause}
-use Rattle.dsa_advice.specs.Explained.{AnswersJudged, ExplainsList, TellsJudged, labels_of, is_drawn, is_planned, is_refused_list, is_spelled, is_told, is_untold, is_waiting}
+use Rattle.dsa_advice.specs.Explained.{AnswersJudged, ExplainsList, TellsJudged, labels_of, is_compared, is_planned, is_refused_list, is_told, is_untold, is_waiting}
 use Rattle.dsa_advice.specs.declared.form.Form.{Form}
 use Rattle.dsa_advice.specs.declared.shown.Subject.{Subject}
 use Rattle.dsa_advice.specs.Shown.{AnswersPlan, AnswersSubject, ShowsPlan, TellsPlan, is_shown, is_too_large, is_unfit, is_untracked, unlabelled}
@@ -105,10 +105,8 @@ plan_beside s plan ds bs origins least form a b status text (is_untracked fault 
 
 pub judged_beside : (s : Limits) (plan : Plan) (ds : List Descriptor) (cost : ℕ) (form : Form) (a b : Answer)
     → b.status ≡ a.status → b.text ≡ a.text → AnswersJudged s plan ds cost form a → AnswersJudged s plan ds cost form b
-judged_beside s plan ds cost form a b status text (is_drawn least range drawn is answers) =
-    is_drawn least range drawn is (plan_beside s plan ds [] unlabelled least form a b status text answers)
-judged_beside s plan ds cost form a b status text (is_spelled least spelled is answers) =
-    is_spelled least spelled is (plan_beside s plan ds [] unlabelled least form a b status text answers)
+judged_beside s plan ds cost form a b status text (is_compared least compares is answers) =
+    is_compared least compares is (plan_beside s plan ds [] unlabelled least form a b status text answers)
 judged_beside s plan ds cost form a b status text (is_waiting waits answers) =
     is_waiting waits (plan_beside s plan ds [] unlabelled None form a b status text answers)
 judged_beside s plan ds cost form a b status text (is_told detail told z tells) =

@@ -1,5 +1,5 @@
 -- What explaining a text, a list, a given plan or the bytes of an emission answers (this project's choice).
-use Rattle.std.specs.Prelude.{◌≡◌, ◌⊎◌, ◌-◌, ◌==◌, ℕ, Bool, List, [], ◌++◌, codes, decimal, map, string_bytes, Option, Some, None, Ok, Err, if◌then◌else◌}
+use Rattle.std.specs.Prelude.{◌≡◌, ◌⊎◌, ⊤, ◌-◌, ◌==◌, ℕ, Bool, List, [], ◌++◌, codes, decimal, map, string_bytes, Option, Some, None, Ok, Err, if◌then◌else◌}
 use Rattle.dsa_descriptor.specs.declared.descriptor.Descriptor.{Descriptor}
 use Rattle.dsa_descriptor.specs.Fields.{Fields}
 use Rattle.dsa_descriptor.specs.Descriptors.{fields}
@@ -21,7 +21,6 @@ use Rattle.dsa_calls.specs.Planned.{Submission, Plans, PlansOperations}
 use Rattle.dsa_splitter.specs.Pieces.{piece_barriers}
 use Rattle.dsa_reasons.specs.declared.fences.Detail.{Detail}
 use Rattle.dsa_explain.specs.declared.explanation.ExplainFault.{ExplainFault}
-use Rattle.dsa_explain.specs.declared.picture.PieceRange.{PieceRange}
 use Rattle.dsa_explain.specs.Explained.{Explains}
 use Rattle.dsa_explain.specs.Runs.{Labelling}
 use Rattle.dsa_advice.specs.declared.answer.Answer.{Answer}
@@ -91,11 +90,17 @@ pub record TellsJudged (s : Limits) (detail : Detail) (plan : Plan) (pieces : Li
   pub is_least : IsLeastCost s (map fields pieces) least
   pub text_is : text ≡ words ++ least_words cost least
 
+-- a picture and JSON have the least cost beside that of the plan
+abbrev pub ComparesCosts : Form → Type 0
+ComparesCosts (Words detail) = ⊥
+ComparesCosts (Picture range) = ⊤
+ComparesCosts Json = ⊤
+ComparesCosts Waits = ⊥
+
 -- a judged plan as a picture, as JSON or in words, with the least cost, or by its waits; or refused for the cause that
 -- `explain` finds, which can only be an allocation failure
 pub data AnswersJudged (s : Limits) (plan : Plan) (pieces : List Descriptor) (cost : ℕ) (form : Form) (a : Answer) : Type 0 where
-  is_drawn : (least : Option ℕ) (range : PieceRange) → form ≡ Picture range → IsLeastCost s (map fields pieces) least → AnswersPlan s plan pieces [] unlabelled least form a → AnswersJudged s plan pieces cost form a
-  is_spelled : (least : Option ℕ) → form ≡ Json → IsLeastCost s (map fields pieces) least → AnswersPlan s plan pieces [] unlabelled least form a → AnswersJudged s plan pieces cost form a
+  is_compared : (least : Option ℕ) → ComparesCosts form → IsLeastCost s (map fields pieces) least → AnswersPlan s plan pieces [] unlabelled least form a → AnswersJudged s plan pieces cost form a
   is_waiting : form ≡ Waits → AnswersPlan s plan pieces [] unlabelled None form a → AnswersJudged s plan pieces cost form a
   is_told : (detail : Detail) → form ≡ Words detail → a.status ≡ 0 → TellsJudged s detail plan pieces cost (string_bytes a.text) → AnswersJudged s plan pieces cost form a
   is_untold : (detail : Detail) → form ≡ Words detail → (fault : ExplainFault) → Explains s detail pieces [] plan (Err fault) → IsRefusal (explain_cause fault) a → AnswersJudged s plan pieces cost form a

@@ -6,8 +6,8 @@ ghost use Rattle.dsa_calls.specs.declared.fault.PlanFault.{PlanFault};
 ghost use Rattle.dsa_calls.specs.declared.fault.PlanFault.TheVariants.{Memory};
 ghost use Rattle.dsa_calls.specs.Judge.{Judges, JudgesPieces};
 ghost use Rattle.dsa_calls.specs.Lists.{IsListOf};
-ghost use Rattle.dsa_advice.specs.declared.form.Form.TheVariants.{Json, Picture, Words, Waits};
-ghost use Rattle.dsa_advice.specs.Explained.{AnswersJudged, ExplainsJudged, IsLeastCost, least_words, more_words};
+ghost use Rattle.dsa_advice.specs.declared.form.Form.TheVariants.{Words, Waits};
+ghost use Rattle.dsa_advice.specs.Explained.{AnswersJudged, ComparesCosts, ExplainsJudged, IsLeastCost, least_words, more_words};
 ghost use Rattle.dsa_advice.specs.Refusals.{IsRefusal};
 
 use crate::answer::Answer;
@@ -17,7 +17,7 @@ use crate::judged::missing_message;
 use crate::shown::{answer_plan, plain, plan_words};
 use dsa_calls::{PlanFault, judge_pieces, plan_operations};
 use dsa_descriptor::{Descriptor, DescriptorList, read_list};
-use dsa_explain::{Detail, PieceRange};
+use dsa_explain::Detail;
 use dsa_plan::{LegalFault, Plan, Settings};
 use std::alloc::{AllocError, Global};
 
@@ -94,46 +94,26 @@ fn judged_words(
     Ok(Answer::done(text))
 }
 
-/// A judged plan as a picture, with what a least plan costs.
-fn judged_picture(
+/// A judged plan as a picture or as JSON, with what a least plan costs.
+fn judged_with_least(
     alloc: Global,
     plan: &Plan,
     list: &DescriptorList,
     settings: &Settings,
     cost: u64,
-    range: PieceRange,
+    form: Form,
 ) -> Result<Answer, AllocError>
-    requires { list.now.barriers.items ≡ [] }
-    ensures { IfOk result (AnswersJudged settings.now plan.now list.now.descriptors.items cost
-        (Picture range)) }
-{
-    let least = least_cost(alloc, list, settings)?;
-    answer_plan(
-        alloc,
-        &plain(plan, &list.descriptors, least),
-        settings,
-        Form::Picture(range),
-    )
-}
-
-/// A judged plan as JSON, with what a least plan costs.
-fn judged_json(
-    alloc: Global,
-    plan: &Plan,
-    list: &DescriptorList,
-    settings: &Settings,
-    cost: u64,
-) -> Result<Answer, AllocError>
-    requires { list.now.barriers.items ≡ [] }
+    requires plain { list.now.barriers.items ≡ [] }
+    requires compares { ComparesCosts form }
     ensures { IfOk result
-        (AnswersJudged settings.now plan.now list.now.descriptors.items cost Json) }
+        (AnswersJudged settings.now plan.now list.now.descriptors.items cost form) }
 {
     let least = least_cost(alloc, list, settings)?;
     answer_plan(
         alloc,
         &plain(plan, &list.descriptors, least),
         settings,
-        Form::Json,
+        form,
     )
 }
 
@@ -171,8 +151,9 @@ fn judged_in_form(
 {
     match form {
         Form::Words(detail) => judged_words(alloc, plan, list, settings, cost, detail),
-        Form::Picture(range) => judged_picture(alloc, plan, list, settings, cost, range),
-        Form::Json => judged_json(alloc, plan, list, settings, cost),
+        Form::Picture(_) | Form::Json => {
+            judged_with_least(alloc, plan, list, settings, cost, form)
+        }
         Form::Waits => judged_waits(alloc, plan, list, settings, cost),
     }
 }

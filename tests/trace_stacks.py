@@ -10,7 +10,7 @@ from pathlib import Path
 
 import schema
 from common import block_after, expect, named, run_test, skip
-from trace_runs import KNOWN, STRICT, WORK, audited, built_all, client, has_text, ran, told, traced
+from trace_runs import KNOWN, STRICT, TEXT, WORK, audited, built_all, client, has_text, ran, told, traced
 
 SOURCE, HEADER = Path("tests/trace/placed.c"), Path("tests/trace/client.h")  # from the folder in which tests run
 # At once; or in flight until the thread has run on for so many microseconds, also on a busy machine.
@@ -171,6 +171,9 @@ def data():
 KEY = f"{FENCE}; batch of 2; member 1: move, 4096 bytes; member 0: move, 4096 bytes"
 BY_COMMIT = f"{KEY} @ submit < flush < commit < fence < main"
 BY_MIRROR = f"{KEY} @ submit < flush < mirror < fence < main"
+PAIRS = [f"{FENCE}; batch of 3; member 2: move, 4096 bytes; member {it}"
+         for it in ("0: move, 128 bytes", "1: move, 64 bytes")]
+WAIT = "missing wait, read after write; lone: move, 12288 bytes; lone: move"
 
 
 def accepted(mode, *lines, options=FIFO, program="placed"):
@@ -212,8 +215,7 @@ def keys():
     expect(end.stdout == f"{listed} @ submit < refill < main\n", f"the key of a list is {end.stdout}")
     told("a list", accepted("list", end.stdout.strip(), options=LONG), 0, "): accepted: descriptor list")
     told("another list", accepted("list", f"{listed} @ submit < main", options=LONG), 1, "): error: descriptor list")
-    pairs = [f"{FENCE}; batch of 3; member 2: move, 4096 bytes; member {it} @ submit < hidden < main"
-             for it in ("0: move, 128 bytes", "1: move, 64 bytes")]
+    pairs = [f"{it} @ submit < three < hidden < main" for it in PAIRS]
     for first, other in (pairs, pairs[::-1]):
         told("a hidden pair", accepted("hidden", first), 1, "): error: missing fence")
         end = audited(*FIFO, "--accept", f"{WORK}/known", "--write-accept", "--", client("placed"), "hidden")
@@ -224,9 +226,8 @@ def keys():
 def hidden_waits():
     """Of waits for moves from other places each is an error until all are accepted, in any order."""
     built_by("gcc", "-O0")
-    what = "missing wait, read after write; lone: move, 12288 bytes; lone: move"
-    place = "@ submit < start < waits < main | submit < start"
-    waits = [f"{what}, {size} bytes {place} < {name} < waits < main"
+    place = "@ submit < start < last < waits < main | submit < start"
+    waits = [f"{WAIT}, {size} bytes {place} < {name} < waits < main"
              for size, name in ((128, "first"), (256, "second"), (64, "third"))]
     expect(keys_of("waits", *LONG) == [waits[2]], f"the last wait is not {waits[2]}")
     for known in (waits[2:], waits[1:], waits[::2]):
@@ -234,6 +235,45 @@ def hidden_waits():
         left = keys_of("waits", *LONG, "--accept", f"{WORK}/known")
         expect(len(left) == 1 and left[0] in waits and left[0] not in known, f"with {known} the keys are {left}")
     told("all waits", accepted("waits", *waits, options=LONG), 0)
+
+
+def elsewhere():
+    """What accepted errors hide, one or several together, is an error too if its key is accepted at other places, and
+    also if one of these is theirs."""
+    built_by("gcc", "-O0")
+    fences = [f"{it} @ submit < three < {by}twins < main" for it in PAIRS for by in ("hidden < ", "")]
+    waits = [f"{WAIT}, {size} bytes @ submit < start < last < {by} | submit < start < {name} < {by}"
+             for by, pairs in (("waits < again < main", ((128, "first"), (256, "second"), (64, "third"))),
+                               ("again < main", ((128, "fourth"), (256, "fourth"), (128, "third"))))
+             for size, name in pairs]
+    for mode, all_known, options in (("twins", fences, FIFO), ("again", waits, LONG)):
+        for left in all_known:
+            known = [it for it in all_known if it != left]
+            told(f"all but {left}", accepted(mode, *known, options=options), 1, f"): error: {left.split(',')[0]}")
+            found = keys_of(mode, *options, "--accept", f"{WORK}/known")
+            expect(found == [left], f"all but {left}: the keys are {found}")
+        told(f"all of {mode}", accepted(mode, *all_known, options=options), 0)
+
+
+def bounded():
+    """If all that is hidden can't be looked for, the audit has seen a part: more audits than the page permits, and a
+    dsa_text that fails in one of them."""
+    built_by("gcc", "-O0")
+    known = [f"{KEY.replace('4096', str(size))} @ submit < both < lengths < main" for size in range(1, 102)]
+    known += [known[0].replace("both", "both < one_byte")]
+    part = ": not all that its accepted errors hide was looked for: "
+    told("100 keys", accepted("lengths", *known), 125, f"{part}that takes more than 100 audits", "has seen a part")
+    known[-2] = known[-2].split(" @ ")[0]
+    told("99 keys", accepted("lengths", *known), 0)
+    Path(WORK, "picky").write_text(f"""#!/bin/sh
+case "$3" in /proc/*) grep -q "^missing" "$3" && exit 2 ;; esac
+exec {TEXT} "$@"
+""")
+    Path(WORK, "picky").chmod(0o755)
+    Path(WORK, "known").write_text(f"{BY_COMMIT}\n{BY_MIRROR}\n")
+    picky = KNOWN | {"DSA_TEXT": f"{WORK}/picky"}
+    end = audited(*FIFO, "--accept", f"{WORK}/known", "--", client("placed"), "fence", env=picky)
+    told("a dsa_text that fails later", end, 125, f"{part}dsa_text does not audit with the keys of places")
 
 
 def alike():
@@ -399,8 +439,8 @@ def rust():
     expect(got[:3] == wanted and len(got) < 6, f"a Rust program: {got}, not {wanted}")
 
 
-PARTS = [compilers, kinds, ways, two_threads, data, keys, hidden_waits, alike, unnumbered, long_names, in_cpp,
-         unnamed, tools, in_json, kept, kept_in_part, rust]
+PARTS = [compilers, kinds, ways, two_threads, data, keys, hidden_waits, elsewhere, bounded, alike, unnumbered,
+         long_names, in_cpp, unnamed, tools, in_json, kept, kept_in_part, rust]
 
 
 def main(words):

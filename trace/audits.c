@@ -128,6 +128,23 @@ static FILE *answer_of(struct audits *all, const struct gathered *g, bool each, 
     return stale_cut(answer);
 }
 
+/// Says what of a process is not audited; answers whether all of it is.
+static bool say_gaps(const struct audits *all, const char *base, const struct gathered *g, const struct judgement *j,
+                     int found)
+{
+    if (g->why)
+        fprintf(stderr, "dsa_trace: %s is audited up to its submission %" PRIu64 ", since %s\n", base, g->submissions,
+                g->why);
+    if (g->dropped)
+        fprintf(stderr, "dsa_trace: %s: %" PRIu64 " more submission%s, dropped by a full queue, %s not audited\n", base,
+                g->dropped, g->dropped > 1 ? "s" : "", g->dropped > 1 ? "are" : "is");
+    if (found > 1)
+        fprintf(stderr, "dsa_trace: %s does not audit %s\n", all->dsa_text, base);
+    if (j->why)
+        fprintf(stderr, "dsa_trace: %s: not all that its accepted errors hide was looked for: %s\n", base, j->why);
+    return found <= 1 && !g->why && !g->dropped && !j->why;
+}
+
 /// The recording of one process, and what the library has noted.
 static int audit_process(struct audited *a, const char *base)
 {
@@ -157,6 +174,7 @@ static int audit_process(struct audited *a, const char *base)
         write_json(a, base, &g, &own, found > 1 ? NULL : answer, &j, &places);
     else
         write_text(a, &g, &own, found > 1 ? NULL : answer, &j, &places);
+    const bool is_whole = say_gaps(all, base, &g, &j, found);
     judged_forget(&j);
     if (all->keeps && places.stack_count)
         places_keep(&places, a->records, base);
@@ -164,15 +182,7 @@ static int audit_process(struct audited *a, const char *base)
     fclose(answer);
     findings_forget(&own);
     gather_end(&g);
-    if (g.why)
-        fprintf(stderr, "dsa_trace: %s is audited up to its submission %" PRIu64 ", since %s\n", base, g.submissions,
-                g.why);
-    if (g.dropped)
-        fprintf(stderr, "dsa_trace: %s: %" PRIu64 " more submission%s, dropped by a full queue, %s not audited\n", base,
-                g.dropped, g.dropped > 1 ? "s" : "", g.dropped > 1 ? "are" : "is");
-    if (found > 1)
-        fprintf(stderr, "dsa_trace: %s does not audit %s\n", all->dsa_text, base);
-    return found > 1 || !is_noted || g.why || g.dropped ? FAILED : found == 1 || has_own;
+    return !is_whole || !is_noted ? FAILED : found == 1 || has_own;
 }
 
 static int ends_in_events(const struct dirent *e)

@@ -1,7 +1,5 @@
 /* Errors of dsa_text that --accept knows by their places. dsa_text knows keys alone, so it gets those without a place,
- * and its errors are compared with the others here. An accepted pair may hide another one, which dsa_text would name if
- * it knew what is accepted: so it judges the process again with the keys of all places that have accepted errors, until
- * there are no more such places, and the errors that it finds there count too. */
+ * and its errors are compared with the others here; hidden.c adds those that accepted ones hide. */
 #include "judged.h"
 
 #include <stdlib.h>
@@ -55,10 +53,11 @@ static size_t kind_length(const char *text) { return strcspn(text, ",:;"); }
 
 static bool is_of(const struct judged *it, const struct named *of, const char *kind)
 {
+    if (it->of.entry_count != of->entry_count ||
+        memcmp(it->of.entries, of->entries, of->entry_count * sizeof *of->entries)) /* first, since it takes no time */
+        return false;
     const size_t length = kind_length(it->key);
-    return it->of.entry_count == of->entry_count && kind_length(kind) == length &&
-           strncmp(it->key, kind, length) == 0 &&
-           memcmp(it->of.entries, of->entries, of->entry_count * sizeof *of->entries) == 0;
+    return kind_length(kind) == length && strncmp(it->key, kind, length) == 0;
 }
 
 const struct judged *judged_find(const struct judgement *j, unsigned source, const struct named *of, const char *text)
@@ -101,16 +100,15 @@ static void take(struct judgement *j, const struct gathered *g, const struct key
     else if (strncmp(at, key, sizeof key - 1) == 0) {
         free(it->key);
         it->key = strndup(at + sizeof key - 1, strcspn(at + sizeof key - 1, "\""));
-    } else if (strncmp(at, error, sizeof error - 1) == 0 && it->key && keys_has(base, it->key)) {
+    } else if (strncmp(at, error, sizeof error - 1) == 0 && it->key && (!base || keys_has(base, it->key))) {
         add(j, it);
         it->key = NULL;
     } else
         j->has_others |= it->source == 0 && strncmp(at, error, sizeof error - 1) == 0;
 }
 
-/// Adds the errors of a report in JSON whose keys are among these.
-static void read_errors(struct judgement *j, const struct gathered *g, const struct keys *base, unsigned source,
-                        FILE *from)
+/// Adds the errors of a report in JSON whose keys are among these, if some are given.
+void judged_read(struct judgement *j, const struct gathered *g, const struct keys *base, unsigned source, FILE *from)
 {
     struct judged it = {.source = source};
     char *text = NULL;
@@ -139,35 +137,8 @@ static bool are_read(const struct judgement *j, const struct keys *base, struct 
     return are_read;
 }
 
-/// What dsa_text finds with the keys of --accept that have some places: the keys of errors, and reports.
-struct again { FILE *json, *words; struct keys base; };
-
-/// False, after a sentence, if dsa_text does not answer as before.
-static bool ask(struct audits *all, const struct gathered *g, const struct keys *places, struct again *a)
-{
-    struct audit_options o = all->options;
-    FILE *accepted = stale_at(&all->stale, places), *keys = in_memory("the keys of the audit");
-    char path[32];
-    snprintf(path, sizeof path, "/proc/self/fd/%d", fileno(accepted));
-    o.accepted = accepted;
-    *a = (struct again){.json = in_memory("a report"), .words = in_memory("a report")};
-    const bool is_read = audit_text(all->dsa_text, &o, "--json", g, a->json) < 2 &&
-                         audit_text(all->dsa_text, &o, "--all", g, a->words) < 2;
-    a->words = stale_take(&all->stale, path, places, a->words);
-    if (audit_text(all->dsa_text, &o, "--write-accept", g, keys) == 0) {
-        rewind(keys);
-        keys_read(&a->base, keys);
-    }
-    fclose(keys);
-    fclose(accepted);
-    if (!is_read)
-        fprintf(stderr, "dsa_trace: %s does not audit with the keys of places, so what they hide is not known\n",
-                all->dsa_text);
-    return is_read;
-}
-
 /// Gives the errors from one on their keys with places, and looks which of them are accepted.
-static void place(struct audits *all, struct places *p, struct judgement *j, size_t from)
+void judged_place(struct audits *all, struct places *p, struct judgement *j, size_t from)
 {
     for (size_t i = from; i < j->count; i++)
         for (unsigned k = 0; k < j->at[i].of.count; k++)
@@ -180,47 +151,6 @@ static void place(struct audits *all, struct places *p, struct judgement *j, siz
         if (it->is_accepted)
             stale_use(&all->stale, it->placed);
     }
-}
-
-static const char *place_of(const char *key)
-{
-    const char *at = strstr(key, KEY_PLACE);
-    return at ? at : "";
-}
-
-/// Whether an error is at one of these places, or of an entry that has an accepted one: else it is judged as it was.
-static bool is_hidden(const struct judgement *j, size_t count, const struct judged *it, const struct keys *places)
-{
-    bool is_hidden = keys_has(places, place_of(it->placed));
-    for (size_t i = 0; i < count && it->of.entry_count; i++)
-        is_hidden |= j->at[i].is_accepted && j->at[i].of.entry_count && j->at[i].of.entries[0] == it->of.entries[0];
-    return is_hidden;
-}
-
-/// Adds the errors that those hide that are accepted at these places.
-static void add_hidden(struct audits *all, const struct gathered *g, struct places *p, const struct keys *places,
-                       struct judgement *j)
-{
-    struct again again;
-    const size_t before = j->count;
-    j->has_others |= !ask(all, g, places, &again);
-    j->reports = realloc(j->reports, (j->report_count + 1) * sizeof *j->reports);
-    if (!j->reports)
-        fail("the errors of the audit");
-    j->reports[j->report_count] = again.words;
-    read_errors(j, g, &again.base, j->report_count++, again.json);
-    place(all, p, j, before);
-    size_t kept = before;
-    for (size_t i = before; i < j->count; i++)
-        if (is_hidden(j, before, &j->at[i], places))
-            j->at[kept++] = j->at[i];
-        else {
-            free(j->at[i].key);
-            free(j->at[i].placed);
-        }
-    j->count = kept;
-    keys_forget(&again.base);
-    fclose(again.json);
 }
 
 void judged_json(const struct judgement *j, FILE *to)
@@ -249,22 +179,12 @@ void judged_begin(struct judgement *j, FILE *answer)
 bool judged_process(struct audits *all, const struct gathered *g, struct places *p, const struct keys *base,
                     struct judgement *j, struct keys *left)
 {
-    struct keys judged = {0};
     FILE *json = in_memory("a report");
     j->has_others = audit_text(all->dsa_text, &all->options, "--json", g, json) != 1 || base->count == 0;
-    read_errors(j, g, base, 0, json);
+    judged_read(j, g, base, 0, json);
     fclose(json);
-    place(all, p, j, 0);
-    for (size_t before;;) {
-        before = judged.count;
-        for (size_t i = 0; i < j->count; i++)
-            if (j->at[i].is_accepted)
-                keys_place(&judged, place_of(j->at[i].placed));
-        if (judged.count == before)
-            break;
-        add_hidden(all, g, p, &judged, j);
-    }
-    keys_forget(&judged);
+    judged_place(all, p, j, 0);
+    hidden_add(all, g, p, j);
     bool has_errors = !are_read(j, base, left) || j->has_others;
     for (size_t i = 0; i < j->count; i++) {
         if (j->at[i].is_accepted)

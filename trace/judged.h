@@ -14,15 +14,17 @@ struct named { uint64_t entries[MOST_NAMED], submissions[MOST_NAMED]; unsigned e
 struct judged { struct named of; char *key, *placed; unsigned source; bool is_accepted; };
 
 /* The errors of one process. `reports` are in words: the first has all findings, the others those that accepted ones
- * hide. `has_others`: there are errors without keys. */
+ * hide. `has_others`: there are errors without keys. `why`: NULL, or why not all that they hide was looked for. */
 struct judgement {
     struct judged *at;
     size_t count, room;
     FILE **reports;
     unsigned report_count;
     bool has_others;
+    const char *why;
 };
 
+/* ---- judged.c ---- */
 /* Names an entry and its submission. */
 void named_add(struct named *n, const struct gathered *g, uint64_t entry);
 /* The submission that has an entry. */
@@ -40,5 +42,13 @@ const struct judged *judged_find(const struct judgement *j, unsigned source, con
 /* Writes the keys that are accepted by their places, each once, as an array of JSON. */
 void judged_json(const struct judgement *j, FILE *to);
 void judged_forget(struct judgement *j);
+/* Adds the errors of a report in JSON: those whose keys are among these, or with NULL all. */
+void judged_read(struct judgement *j, const struct gathered *g, const struct keys *base, unsigned source, FILE *from);
+/* Gives the errors from one on their keys with places, and looks which of them are accepted. */
+void judged_place(struct audits *all, struct places *p, struct judgement *j, size_t from);
+
+/* ---- hidden.c: what accepted errors hide ---- */
+/* Adds the errors that those hide that are accepted by their places. */
+void hidden_add(struct audits *all, const struct gathered *g, struct places *p, struct judgement *j);
 
 #endif

@@ -123,11 +123,14 @@ struct stale {
 };
 void stale_begin(struct stale *s, const struct audit_options *o);
 void stale_read(struct stale *s, struct keys *accepted);
-/* A file for dsa_text, to close: the lines without a place, and the keys of those with one of these. */
-FILE *stale_at(const struct stale *s, const struct keys *places);
+/* A file for dsa_text, to close: the lines without a place, and the keys of those with one of these, but for some keys,
+ * NULL for none. */
+FILE *stale_at(const struct stale *s, const struct keys *places, const struct keys *but);
 /* Answers a report without what it says of these lines, and closes the other. It was made with the file `passed` of
  * stale_at, or NULL for that of all audits, and these places. */
 FILE *stale_take(struct stale *s, const char *passed, const struct keys *places, FILE *report);
+/* Adds the lines with these places that the report which was taken last does not name. */
+void stale_fitting(const struct stale *s, const struct keys *places, struct keys *to);
 FILE *stale_cut(FILE *report);
 void stale_use(struct stale *s, const char *key);
 /* Writes the lines that no recording has used, and answers whether they are errors. */

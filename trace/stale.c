@@ -50,9 +50,21 @@ static bool has_place(const char *line, const char **at)
     return *at;
 }
 
-/// A file of the lines without a place, and of the keys with one of these, NULL for none; each has the number of its
-/// line.
-FILE *stale_at(const struct stale *s, const struct keys *places)
+/// Whether dsa_text gets the key of a line, which has one of these places, but for some keys.
+static bool is_given(const struct accepted_line *line, const char *at, const struct keys *places,
+                     const struct keys *but)
+{
+    char *key = strndup(line->text, at - line->text);
+    if (!key)
+        fail("the accepted keys");
+    const bool is_given = places && keys_has(places, at) && !(but && keys_has(but, key));
+    free(key);
+    return is_given;
+}
+
+/// A file of the lines without a place, and of the keys with one of these, NULL for none, but for some; each has the
+/// number of its line.
+FILE *stale_at(const struct stale *s, const struct keys *places, const struct keys *but)
 {
     const char *at;
     FILE *file = in_memory("the accepted keys");
@@ -60,7 +72,7 @@ FILE *stale_at(const struct stale *s, const struct keys *places)
         const char *line = s->lines[i].text;
         if (!has_place(line, &at))
             fprintf(file, "%s\n", line);
-        else if (places && keys_has(places, at))
+        else if (is_given(&s->lines[i], at, places, but))
             fprintf(file, "%.*s\n", (int)(at - line), line);
         else
             fputs("#\n", file);
@@ -94,7 +106,7 @@ void stale_read(struct stale *s, struct keys *accepted)
     fclose(from);
     for (size_t i = 0; i < s->count; i++)
         if (!s->plain && has_place(s->lines[i].text, &at))
-            s->plain = stale_at(s, NULL);
+            s->plain = stale_at(s, NULL, NULL);
     if (s->plain)
         snprintf(s->passed, sizeof s->passed, "/proc/self/fd/%d", fileno(s->plain));
 }
@@ -135,6 +147,15 @@ FILE *stale_take(struct stale *s, const char *passed, const struct keys *places,
     }
     fclose(report);
     return left;
+}
+
+/// Adds the lines with these places that fit something in the report that was taken last.
+void stale_fitting(const struct stale *s, const struct keys *places, struct keys *to)
+{
+    const char *at;
+    for (size_t i = 0; i < s->count; i++)
+        if (has_place(s->lines[i].text, &at) && keys_has(places, at) && !s->lines[i].is_named)
+            keys_place(to, s->lines[i].text);
 }
 
 /// Takes the array of these lines off a report in JSON, which is one line and ends with it.

@@ -1,6 +1,6 @@
 /* Submissions with a fault from each kind of code, for what is said of their places:
  *
- *     placed fence|hidden|waits|sizes|many|list|heap|stack|handler|fork|deep|written|library PATH
+ *     placed fence|hidden|twins|waits|again|sizes|lengths|many|list|heap|stack|handler|fork|deep|written|library PATH
  *
  * As a library (-DLIBRARY) it has submit_in_library alone. */
 #include <dlfcn.h>
@@ -58,10 +58,11 @@ static void fence(void)
         commit(); /* fence commits */
         mirror(); /* fence mirrors */
     }
+    __asm__ volatile("");
 }
 
 /* The last of three copies lacks a fence for each of the two before it. */
-OUT_OF_LINE static void hidden(void)
+OUT_OF_LINE static void three(void)
 {
     static _Alignas(64) descriptor list[3];
     static _Alignas(32) completion done;
@@ -74,16 +75,37 @@ OUT_OF_LINE static void hidden(void)
     await(&done);
 }
 
+OUT_OF_LINE static void hidden(void)
+{
+    three();
+    __asm__ volatile("");
+}
+
+/* The same from two places. */
+static void twins(void)
+{
+    hidden();
+    three();
+}
+
+static _Alignas(32) completion ends[4];
+static unsigned started;
+
 /* A move that is not waited for. */
 OUT_OF_LINE static void start(const char *from, char *to, unsigned size)
 {
-    static _Alignas(32) completion done[4];
-    static unsigned next;
-    const descriptor one = move(from, to, size, &done[next++]);
+    const descriptor one = move(from, to, size, &ends[started++]);
     submit(job.portal, &one);
     __asm__ volatile("");
-    for (unsigned i = 0; next == 4 && i < next; i++)
-        await(&done[i]);
+}
+
+/* Waits for all of them. */
+static void settle(void)
+{
+    for (unsigned i = 0; i < started; i++)
+        await(&ends[i]);
+    memset(ends, 0, sizeof ends);
+    started = 0;
 }
 
 OUT_OF_LINE static void first(void)
@@ -98,20 +120,45 @@ OUT_OF_LINE static void second(void)
     __asm__ volatile("");
 }
 
-OUT_OF_LINE static void third(void)
+OUT_OF_LINE static void third(unsigned size)
 {
-    start(data.other, data.to, 64);
+    start(data.other, data.to, size);
     __asm__ volatile("");
+}
+
+OUT_OF_LINE static void fourth(unsigned size)
+{
+    start(data.other, data.to, size);
+    __asm__ volatile("");
+}
+
+/* Reads what the others write. */
+OUT_OF_LINE static void last(void)
+{
+    static char all[3 * SIZE];
+    start(data.from, all, sizeof all);
+    settle();
 }
 
 /* The last of four moves lacks a wait for each of those before it. */
 OUT_OF_LINE static void waits(void)
 {
-    static char all[3 * SIZE];
     first();
     second();
-    third();
-    start(data.from, all, sizeof all); /* reads what all three write */
+    third(64);
+    last();
+}
+
+/* Then moves lack waits for one of the same sizes, but from elsewhere. */
+OUT_OF_LINE static void again(void)
+{
+    waits();
+    fourth(128);
+    last();
+    fourth(256);
+    last();
+    third(128);
+    last();
 }
 
 /* From one place the same fault in a batch of 2, and in one of 3 whose last move has none. */
@@ -128,6 +175,33 @@ OUT_OF_LINE static void sizes(void)
         submit(job.portal, &all);
         await(&done);
     }
+}
+
+/* As flush does, of any size. */
+OUT_OF_LINE static void both(unsigned size)
+{
+    static _Alignas(64) descriptor list[2];
+    static _Alignas(32) completion done;
+    list[0] = move(data.from, data.between, size, NULL);
+    list[1] = move(data.between, data.to, size, NULL);
+    const descriptor all = batch(list, 2, &done);
+    done.status = 0;
+    submit(job.portal, &all);
+    await(&done);
+}
+
+OUT_OF_LINE static void one_byte(void)
+{
+    both(1);
+    __asm__ volatile("");
+}
+
+/* The same fault with many sizes, and from another place with one of them. */
+static void lengths(void)
+{
+    for (unsigned size = 1; size <= 101; size++)
+        both(size);
+    one_byte();
 }
 
 /* After as many stacks as have numbers two batches with a fault, whose stacks have none. */
@@ -234,8 +308,9 @@ static void in_library(const char *path)
 int main(int argc, char **argv)
 {
     static const struct { const char *name; void (*run)(void); } modes[] = {
-        {"fence", fence},   {"hidden", hidden}, {"waits", waits},    {"sizes", sizes},     {"many", many},
-        {"list", refill},   {"heap", on_heap},  {"stack", on_stack}, {"fork", in_child}, {"written", written},
+        {"fence", fence}, {"hidden", hidden},   {"twins", twins}, {"waits", waits},     {"again", again},
+        {"sizes", sizes}, {"lengths", lengths}, {"many", many},   {"list", refill},     {"heap", on_heap},
+        {"stack", on_stack}, {"fork", in_child}, {"written", written},
     };
     const char *mode = argc > 1 ? argv[1] : "fence";
     job.portal = portal_of("/dev/dsa/wq0.0");

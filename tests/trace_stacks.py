@@ -174,6 +174,8 @@ BY_MIRROR = f"{KEY} @ submit < flush < mirror < fence < main"
 PAIRS = [f"{FENCE}; batch of 3; member 2: move, 4096 bytes; member {it}"
          for it in ("0: move, 128 bytes", "1: move, 64 bytes")]
 WAIT = "missing wait, read after write; lone: move, 12288 bytes; lone: move"
+WAITS = [f"{WAIT}, {size} bytes @ submit < start < last < waits < main | submit < start < {name} < waits < main"
+         for size, name in ((128, "first"), (256, "second"), (64, "third"))]
 
 
 def accepted(mode, *lines, options=FIFO, program="placed"):
@@ -226,15 +228,12 @@ def keys():
 def hidden_waits():
     """Of waits for moves from other places each is an error until all are accepted, in any order."""
     built_by("gcc", "-O0")
-    place = "@ submit < start < last < waits < main | submit < start"
-    waits = [f"{WAIT}, {size} bytes {place} < {name} < waits < main"
-             for size, name in ((128, "first"), (256, "second"), (64, "third"))]
-    expect(keys_of("waits", *LONG) == [waits[2]], f"the last wait is not {waits[2]}")
-    for known in (waits[2:], waits[1:], waits[::2]):
+    expect(keys_of("waits", *LONG) == [WAITS[2]], f"the last wait is not {WAITS[2]}")
+    for known in (WAITS[2:], WAITS[1:], WAITS[::2]):
         told(f"of the waits {known}", accepted("waits", *known, options=LONG), 1, "): error: missing wait")
         left = keys_of("waits", *LONG, "--accept", f"{WORK}/known")
-        expect(len(left) == 1 and left[0] in waits and left[0] not in known, f"with {known} the keys are {left}")
-    told("all waits", accepted("waits", *waits, options=LONG), 0)
+        expect(len(left) == 1 and left[0] in WAITS and left[0] not in known, f"with {known} the keys are {left}")
+    told("all waits", accepted("waits", *WAITS, options=LONG), 0)
 
 
 def elsewhere():
@@ -378,6 +377,26 @@ def in_json():
     expect(times == sorted(times) and times[0] == 0, f"the times are {times}")
 
 
+def hidden_in_json():
+    """What accepted errors hide is in the object of its process as in the text, the later of the entries first."""
+    built_by("gcc", "-O0")
+    for known, status, left, numbers in ((WAITS[2:], 1, WAITS[1], (3, 1)), (WAITS[1:], 1, WAITS[0], (3, 0)),
+                                         (WAITS, 0, None, ()), ([], 1, None, ())):
+        Path(WORK, "known").write_text("".join(f"{it}\n" for it in known))
+        end = audited(*LONG, "--json", "--accept", f"{WORK}/known", "--", client("placed"), "waits")
+        told(f"{len(known)} accepted waits in JSON", end, status)
+        it = json.loads(end.stdout)
+        expect(schema.holds(schema.report_schema("runs"), it), f"the schema rejects {end.stdout[:1000]}")
+        process, wanted = it["runs"][0]["processes"][0], []
+        if left:
+            key, place = left.split(" @ ")
+            entries = [{"entry": number, "submission": number} for number in numbers]
+            wanted = [{"entries": entries, "key": key, "place": place, "severity": "error"}]
+        expect(process["hidden"] == wanted, f"{len(known)} accepted waits hide {process['hidden']}, not {wanted}")
+        places = {it["submission"] for it in process["places"]}
+        expect(set(numbers) <= places, f"{len(known)} accepted waits: the places are of {places}")
+
+
 def kept():
     """What is kept names the places when it is audited again, and when the program is gone, too."""
     built_by("gcc", "-O0")
@@ -440,7 +459,7 @@ def rust():
 
 
 PARTS = [compilers, kinds, ways, two_threads, data, keys, hidden_waits, elsewhere, bounded, alike, unnumbered,
-         long_names, in_cpp, unnamed, tools, in_json, kept, kept_in_part, rust]
+         long_names, in_cpp, unnamed, tools, in_json, hidden_in_json, kept, kept_in_part, rust]
 
 
 def main(words):

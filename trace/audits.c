@@ -93,6 +93,9 @@ static void write_json(const struct audited *a, const char *base, const struct g
     FILE *to = a->report, *both = in_memory("the report of a process");
     fputs("{\"accepted\":", to);
     judged_json(j, to);
+    fputs(",\"hidden\":", to);
+    hidden_json(j, g, to);
+    hidden_json(j, g, both);
     fputs(",\"noted\":", to);
     findings_json(own, &a->all->accepted, to);
     findings_json(own, &a->all->accepted, both);

@@ -2,6 +2,7 @@
  * accepted at places. So it judges the process again with the keys of all places that have accepted errors, until there
  * are no more such places, and then without each of these keys once, since an error elsewhere may have it. What it
  * finds is judged by its own place, and counts too. */
+#include <inttypes.h>
 #include <stdlib.h>
 #include <string.h>
 
@@ -229,4 +230,31 @@ void hidden_add(struct audits *all, const struct gathered *g, struct places *p, 
     }
     keys_forget(&s.places);
     keys_forget(&s.left_out);
+}
+
+static void write_json(const struct judged *it, const struct gathered *g, FILE *to)
+{
+    fputs("{\"entries\":[", to);
+    for (unsigned i = 0; i < it->of.entry_count; i++)
+        fprintf(to, "%s{\"entry\":%" PRIu64 ",\"submission\":%" PRIu64 "}", i ? "," : "", it->of.entries[i],
+                named_submission(g, it->of.entries[i]));
+    fputs("],\"key\":", to);
+    escape_json(to, it->key);
+    fputs(",\"place\":", to);
+    escape_json(to, place_of(it->placed) + strlen(KEY_PLACE));
+    fputs(",\"severity\":\"error\"}", to);
+}
+
+void hidden_json(const struct judgement *j, const struct gathered *g, FILE *to)
+{
+    const char *between = "";
+    fputc('[', to);
+    for (size_t i = 0; i < j->count; i++) {
+        if (!j->at[i].source || j->at[i].is_accepted)
+            continue;
+        fputs(between, to);
+        write_json(&j->at[i], g, to);
+        between = ",";
+    }
+    fputc(']', to);
 }

@@ -50,5 +50,7 @@ void judged_place(struct audits *all, struct places *p, struct judgement *j, siz
 /* ---- hidden.c: what accepted errors hide ---- */
 /* Adds the errors that those hide that are accepted by their places. */
 void hidden_add(struct audits *all, const struct gathered *g, struct places *p, struct judgement *j);
+/* Writes those that are errors as an array of JSON. */
+void hidden_json(const struct judgement *j, const struct gathered *g, FILE *to);
 
 #endif

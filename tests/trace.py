@@ -427,7 +427,7 @@ def options():
     wanted = "dsa_trace: the program to run is missing (see dsa_trace --help)\n"
     expect(bare.stderr == wanted, f"without a program is said {bare.stderr}")
     names = re.findall(r"^ +(?:-[hV], )?(--[a-z-]+)", end.stdout, re.M)
-    expect(len(names) == 28, f"--help names {names}")
+    expect(len(names) == 33, f"--help names {names}")
     page = Path("bindings/package/dsa_trace.1").read_text().replace("\\-", "-")
     completion = Path("bindings/package/dsa_trace.bash").read_text()
     missing = [name for name in names if name not in page or name not in completion]

@@ -142,22 +142,27 @@ def passed_on():
     """dsa_text gets its options for each process, and judges them before anything is run."""
     Path(WORK, "shows").write_text(f'#!/bin/sh\necho "$@" >> {WORK}/shown\n')
     Path(WORK, "shows").chmod(0o755)
-    options = [*accepting(), "--deny", "needless,unseen", "--await=batches", "--resident"]
+    options = [*accepting(), "--deny", "needless,unseen", "--await=batches", "--resident", "--lone", 7, "--batch=9"]
+    options += ["--batches", "9,10", "--fence", 2, "--greatest-batch", 3]
     told("options", audited(*options, "--", client("unseen"), "right", env={"DSA_TEXT": f"{WORK}/shows"}), 0)
     words = f"audit --accept {WORK}/known.txt --deny needless,unseen --await batches "
+    words += "--greatest-batch 3 --lone 7 --batch 9 --batches 9,10 --fence 2 "
     lines = Path(WORK, "shown").read_text().splitlines()
     wanted = [re.escape(words) + "--resident -", re.escape(words) + r"--events \S+ --resident \S+"]
     right = len(lines) == 2 and all(re.fullmatch(pattern, line) for pattern, line in zip(wanted, lines))
     expect(right, f"dsa_text gets {lines}")
-    for words in (["--await", "nothing"], ["--deny", "fences"], ["--accept", "/nowhere"]):
+    for words in (["--await", "nothing"], ["--deny", "fences"], ["--accept", "/nowhere"], ["--lone", "x"],
+                  ["--batch", 1, "--batches", 1], ["--greatest-batch", 1]):
         end = audited(*words, "--", "sh", "-c", "echo run")
         told(f"{words}", end, 125, "does not audit with these options")
         expect("run\n" not in end.stdout, f"with {words} the program is run")
-    for words in (["--json"], ["--accept", "/dev/null"], ["--write-accept"]):
+    for words in (["--json"], ["--accept", "/dev/null"], ["--write-accept"], ["--lone", 1], ["--greatest-batch", 2]):
         told(f"{words} without an audit", traced(*words, "--", "true"), 125, "an audit alone takes")
     told("two forms", audited("--json", "--write-accept", "--", "true"), 125, "writes keys alone")
     end = audited("--deny", "unseen", "--", client("unseen"), "right")
     told("an option that denies what is not there", end, 0)
+    end = audited("--lone", 7, "--", client("unseen"), "right")
+    told("two submissions with a price of their own", end, 0, "\ncost 14 as submitted")
 
 
 def in_json():

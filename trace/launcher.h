@@ -16,6 +16,7 @@ enum { MOST_QUEUES = 8, LONGEST_KEY = 4096 };
 /* What an audit takes of the options of dsa_text, NULL if they are not given. `is_there`: one of them is given. */
 struct audit_options {
     const char *accept, *deny, *await;
+    const char *greatest_batch, *lone, *batch, *batches, *fence; /* for what it says of costs */
     FILE *accepted; /* what is read in place of the file `accept`, or NULL */
     bool is_resident, is_json, writes_keys, is_there;
 };

@@ -21,6 +21,12 @@ static const char help[] =
     "                       stale, lines of --accept that fit nothing\n"
     "      --await <WHAT>   of an audit: what the program looks at: writes, signals or batches [default: writes]\n"
     "      --resident       of an audit: all memory is resident, so no member page-faults\n"
+    "      --lone <N>       of an audit: for its line of costs, the price of a lone descriptor [default: 10]\n"
+    "      --batch <N>      that of a batch [default: 14]\n"
+    "      --batches <N,..> those of batches by their size, from 2 members on, in place of --batch\n"
+    "      --fence <N>      that of a fence in a batch [default: 3]\n"
+    "      --greatest-batch <N>\n"
+    "                       the most members of a batch that has a price [default: 32]\n"
     "      --json           of an audit: write the reports of all runs as JSON; with this and --write-accept what the\n"
     "                       program prints goes to standard error\n"
     "      --report <DIR>   run no program: audit the runs that --out DIR has kept\n"
@@ -114,9 +120,14 @@ static uint64_t *number_at(struct options *o, const char *name)
 /// The text that an option gives, or NULL; *is_of_audit says whether an audit alone takes it.
 static const char **text_at(struct options *o, const char *name, bool *is_of_audit)
 {
+    struct audit_options *a = &o->audit;
     struct { const char *name; const char **at; bool is_of_audit; } texts[] = {
-        {"--out", &o->out, false},           {"--junit", &o->junit, false},   {"--report", &o->report, false},
-        {"--accept", &o->audit.accept, true}, {"--deny", &o->audit.deny, true}, {"--await", &o->audit.await, true},
+        {"--out", &o->out, false},     {"--junit", &o->junit, false},
+        {"--report", &o->report, false}, {"--accept", &a->accept, true},
+        {"--deny", &a->deny, true},    {"--await", &a->await, true},
+        {"--lone", &a->lone, true},    {"--greatest-batch", &a->greatest_batch, true},
+        {"--batch", &a->batch, true},  {"--batches", &a->batches, true},
+        {"--fence", &a->fence, true},
     };
     for (size_t i = 0; i < sizeof texts / sizeof *texts; i++)
         if (strcmp(name, texts[i].name) == 0) {
@@ -216,7 +227,8 @@ void options_read(char **words, struct options *o)
     if (o->seeds == 0)
         refuse("at least one run is needed", "--seeds");
     if (o->audit.is_there && !o->audits)
-        refuse("an audit alone takes --accept, --write-accept, --deny, --await, --resident and --json", "--audit");
+        refuse("an audit alone takes --accept, --write-accept, --deny, --await, --resident, --json and prices",
+               "--audit");
     if (o->audit.is_json && o->audit.writes_keys)
         refuse("--write-accept writes keys alone", "--json");
 }

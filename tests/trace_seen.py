@@ -17,6 +17,7 @@ from trace_runs import HAS_MOVDIR64B, KNOWN, WORK, audited, built_all, client, h
 
 PART = "the audit has seen a part of the run"
 EMPTY = "nothing was submitted, so nothing was audited"
+UNSEEN = "\nit was not seen when the program looked at its records, so each end counts as known at once: "
 
 
 def unseen(*words):
@@ -252,11 +253,12 @@ def threads():
     with tempfile.TemporaryDirectory(dir=WORK) as folder:
         shell = f"exec 2> /dev/null; ulimit -n 5; exec {client('unseen')} right"
         end = audited("--seeds", 2, "--", "sh", "-c", shell)
-        told("a program with few file numbers", end, 0, "no watchpoints in 1 process (Too many open files)")
+        told("a program with few file numbers", end, 0, "no watchpoints in 1 process (Too many open files)", UNSEEN)
         expect(end.stderr.count("no watchpoints") == 1, f"it is said again: {end.stderr}")
         traced("--out", folder, *unseen("right"))
         lines = "".join(path.read_text() for path in Path(folder, "seed-1").glob("*.events"))
         expect("W" not in lines, f"without an audit records are watched: {lines}")
+        told("what was recorded without an audit", traced("--report", folder, env=KNOWN), 0, UNSEEN)
     if not watches():
         return
     for how in ([], ["--watch", 5], ["--watch", 100]):
@@ -337,12 +339,14 @@ def at_once():
     kept, and not if another seed has looked."""
     said = "dsa_trace: each submission was done at once, so no missing wait was looked for"
     with tempfile.TemporaryDirectory(dir=WORK) as folder:
+        in_report = "\nin this process each submission was done at once, as under every fourth seed"
         for how in (["--order", "fifo"], ["--order", "members"], ["--seed", 4], ["--seed", 4, "--out", folder]):
-            told(f"all at once, {how}", audited(*how, *unseen("gap", 0)), 0, said)
-        told("a kept run of these", traced("--report", folder, env=KNOWN), 0, said)
+            told(f"all at once, {how}", audited(*how, *unseen("gap", 0)), 0, said, in_report)
+        told("a kept run of these", traced("--report", folder, env=KNOWN), 0, said, in_report)
     for how in ([], ["--seed", 4, "--delay", 100], ["--seed", 4, "--watch", 5], ["--seed", 4, "--seeds", 2]):
         end = audited(*how, *unseen("right"))
         expect(end.returncode == 0 and said not in end.stderr, f"with {how} is said: {end.stderr}")
+        expect(in_report not in end.stdout, f"with {how} the report has {end.stdout}")
     for seed, right in ((4, True), (5, None)):
         runs = json.loads(audited("--json", "--seed", seed, *unseen("right")).stdout)
         expect(runs.get("at_once") == right, f"as JSON, seed {seed}: {sorted(runs)}")

@@ -288,7 +288,7 @@ def alike():
 def unnumbered():
     """A stack without a number is `?` in a key, which accepts the error at no other place."""
     built_by("gcc", "-O0")
-    full = "more than 4096 call stacks (each dlclose counts them anew); findings name no further ones\n"
+    full = "more than 4096 call stacks (each dlclose counts them anew); findings name no further ones; "
     told("many stacks", audited(*FIFO, "--", client("placed"), "many"), 1, full)
     expect(keys_of("many", *FIFO) == [f"{KEY} @ ?"], "the key of stacks without numbers is another")
     told("without numbers", accepted("many", f"{KEY} @ ?"), 0)

@@ -121,10 +121,12 @@ static FILE *answer_of(struct audits *all, const struct gathered *g, bool each, 
     const bool is_json = all->options.is_json;
     FILE *answer = in_memory("the answer of dsa_text");
     *found = audit_text(all->dsa_text, &all->options, is_json ? "--json" : each ? "--all" : NULL, g, answer);
-    if (*found > 1 || !all->options.accept)
+    if (*found > 1)
         return answer;
     if (!is_json)
-        return stale_take(&all->stale, NULL, NULL, answer);
+        return looks_explain(stale_take(&all->stale, NULL, NULL, answer), g);
+    if (!all->options.accept)
+        return answer;
     FILE *words = in_memory("the answer of dsa_text");
     audit_text(all->dsa_text, &all->options, NULL, g, words);
     fclose(stale_take(&all->stale, NULL, NULL, words));

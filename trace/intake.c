@@ -112,7 +112,8 @@ static bool has_room(struct queue *q, bool is_enqueued)
         return true;
     record_dropped(order.submitted, q);
     if (!order.dropped++)
-        say("wq%d.%d is full (%u in flight): MOVDIR64B is lost", q->device, q->id, q->size);
+        say("wq%d.%d is full (%u in flight): MOVDIR64B is lost, as on a device; have fewer in flight, or a larger "
+            "queue (--queue)", q->device, q->id, q->size);
     return false;
 }
 

@@ -183,6 +183,10 @@ void gather_end(struct gathered *g);
  * breaks off. */
 bool errors_noted(const char *records, const char *base, struct gathered *g, struct findings *to);
 
+/* ---- looks.c: whether it was seen when the program looked at records ---- */
+/* A report in words, which is closed, with what is missed if that was not seen in place of dsa_text's line. */
+FILE *looks_explain(FILE *report, const struct gathered *g);
+
 /* ---- unproved.c: a dsa_text that is built without proofs ---- */
 /* Builds it in the clone whose trace/out this folder is, if there is one, and the toolchain; NULL if not. */
 const char *unproved_build(const char *folder, char path[PATH_MAX]);

@@ -361,7 +361,7 @@ void order_finish(void)
     for (struct submission *s = order.head; s; s = s->next)
         left++;
     if (left)
-        say("%u submissions are in flight at the end of the process", left);
+        say("%u submissions are in flight at the end of the process: nobody has waited for their records", left);
     while (order.head && pthread_cond_timedwait(&order.idle, &order.lock, &until) != ETIMEDOUT)
         ;
     if (settings.verbose)

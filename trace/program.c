@@ -136,7 +136,7 @@ void program_explain(int status)
                 fault, fault);
     if (status == 128 + SIGSYS)
         fputs("dsa_trace: ended by SIGSYS: the program's filter of system calls (seccomp) does not permit those that a "
-              "submission in software takes\n", stderr);
+              "submission in software takes; run it without the filter\n", stderr);
 }
 
 /// Looks at the program, and of a script at what interprets it.

@@ -135,8 +135,8 @@ static void become(const struct options *o, const char *folder, const char *boar
         choose_pace(&s, run->records);
     make_folders(joined(tree, folder, "tree"));
     if (is_inside && !namespace_enter()) {
-        fprintf(stderr, "dsa_trace: no namespace of mounts (%s), so file names are turned in the library\n",
-                strerror(errno));
+        fprintf(stderr, "dsa_trace: no namespace of mounts (%s), so file names are turned in the library, as with "
+                "--no-namespace, which does not say so\n", strerror(errno));
         is_inside = false;
     }
     if (is_inside && mount("dsa_trace", tree, "tmpfs", 0, "mode=755"))

@@ -72,8 +72,11 @@ static void say_unwatched(const struct board *b)
 {
     static bool is_said, is_half_said;
     if (b->unwatched && !is_said)
-        fprintf(stderr, "dsa_trace: no watchpoints in %u process%s (%s): completions count as looked at, so waits that "
-                "threads lack may be missed\n", b->unwatched, b->unwatched > 1 ? "es" : "", b->why_unwatched);
+        fprintf(stderr, "dsa_trace: no watchpoints in %u process%s (%s), so it is not seen when the program looks at "
+                "records: a wait that is missing, as between threads, is found only if the later submission comes "
+                "before the end of the earlier one; what helps is a kernel that gives them to you (perf_event_open: "
+                "kernel.perf_event_paranoid of at most 2, no container that forbids it), or --delay 20000, so that "
+                "ends come late\n", b->unwatched, b->unwatched > 1 ? "es" : "", b->why_unwatched);
     if (b->half_watched && !is_half_said)
         fprintf(stderr, "dsa_trace: %u process%s closed the files of watchpoints: completions that were watched then "
                 "count as not looked at, so a wait that is there may be called missing, but not with --no-watch\n",

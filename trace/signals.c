@@ -230,7 +230,8 @@ void signals_install(void)
         return;
     signals.fakes_cpuid = syscall(SYS_arch_prctl, ARCH_SET_CPUID, 0l) == 0; /* threads inherit it */
     if (!signals.fakes_cpuid)
-        say("--cpuid: this processor or kernel can't let CPUID fault, so programs see the processor's own answer");
+        say("--cpuid: this processor or kernel can't let CPUID fault, so programs see the processor's own answer: have "
+            "yours submit without asking");
 }
 
 int sigaction(int number, const struct sigaction *new, struct sigaction *old)

@@ -92,7 +92,7 @@ static bool rewrite(struct site *s)
     s->state = CHANGES;
     bool is_changed = has(s->at, s->code, s->length) && change(file, s->at, s->jump);
     if (!is_changed && !has(s->at, s->code, s->length) && !change(file, s->at, s->code))
-        say("the code at %#lx is changed in part and can't be mended", (unsigned long)s->at);
+        say("the code at %#lx is changed in part and can't be mended: use --signals", (unsigned long)s->at);
     patch_close(file);
     return is_changed;
 }
@@ -136,7 +136,7 @@ void sites_forget(void)
             continue;
         s->state = STAYS;
         if (file < 0 || !change(file, s->at, s->code))
-            say("the code at %#lx is changed in part and can't be mended", (unsigned long)s->at);
+            say("the code at %#lx is changed in part and can't be mended: use --signals", (unsigned long)s->at);
         patch_close(file);
     }
 }

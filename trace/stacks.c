@@ -171,7 +171,7 @@ static unsigned number_of(struct walk *w)
     if (stacks.count == STACKS) {
         if (!stacks.is_full)
             say("this process submits from more than %d call stacks (each dlclose counts them anew); findings name no "
-                "further ones",
+                "further ones; with fewer frames (--stacks 4) there are fewer",
                 STACKS);
         stacks.is_full = true;
         return 0;

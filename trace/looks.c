@@ -1,0 +1,33 @@
+/* Whether it was seen when the program looked at completion records. dsa_text names the events that say so, which a
+ * user of dsa_trace does not see: a report has in place of its line what is missed without them, and what helps. */
+#include <stdlib.h>
+#include <string.h>
+
+#include "launcher.h"
+
+static const char sentence[] = "no event says when the program looked at a record";
+
+static const char at_once[] =
+    "in this process each submission was done at once, as under every fourth seed and with --order fifo or members, so "
+    "no missing wait was looked for\n";
+
+static const char unseen[] =
+    "it was not seen when the program looked at its records, so each end counts as known at once: a missing wait is "
+    "found only if the later submission came before that end; what helps is to run it with --audit or --watch, without "
+    "--no-watch, where there are watchpoints, or with --delay 20000, so that ends come late\n";
+
+FILE *looks_explain(FILE *report, const struct gathered *g)
+{
+    char *line = NULL;
+    size_t room = 0;
+    const char *const instead = g->is_at_once ? at_once : g->submissions ? unseen : "";
+    FILE *to = in_memory("the answer of dsa_text");
+    rewind(report);
+    while (getline(&line, &room, report) >= 0)
+        fputs(strncmp(line, sentence, sizeof sentence - 1) ? line : instead, to);
+    free(line);
+    if (ferror(report) || ferror(to))
+        fail("the answer of dsa_text");
+    fclose(report);
+    return to;
+}

@@ -30,7 +30,6 @@ import causes
 
 LEAST = model.Settings(4, 4096, 10, 14, 3, 0x10000)
 PAIR = "move 1 -> 2, 3 bytes, record 32"
-MOST_GROUPS = "1025 groups, a picture has 1024 at most (--from N --to M draws some)"
 
 
 def expect(command, text, wanted):
@@ -117,7 +116,6 @@ def refusals():
     """Refusals by way of options, jobs and addresses."""
     plan, run = (Path(f"examples/{name}.job").read_text() for name in ("plan", "run"))
     two = "move 1 -> 2, 3 bytes, record 32\nmove 1 - 2\n"
-    many = "move 0 -> 4096, 64 bytes, record 8192\n" * 1025
     for command, text, begin, name in [
         ("assemble", two, "line 2, column 8: expected ->, found '-'", "130 Line"),
         ("assemble", "\nmove 1 -> 2, 0 bytes, record 32\n", "line 2, operation 0: the transfer size is 0", "5 SizeZero 0"),
@@ -134,22 +132,8 @@ def refusals():
         ("disassemble --staging --at 0x8000000000000040", "", "--at: ", "83 Settings"),
         ("assemble", "compare 1 with patern 2, 8 bytes\n",
          "line 1, column 16: expected a number below 2^64, or pattern, found 'patern'", "130 Line"),
-        ("explain --svg --lone 0", many, MOST_GROUPS, "131 Picture"),
     ]:
         refused(command, text, begin, name)
-    # the most groups that a picture has
-    picture = written("explain --svg --lone 0", "move 0 -> 4096, 64 bytes, record 8192\n" * 1024)
-    common.expect("<title>groups 1 to 1023</title>" in picture and picture.endswith("</svg>\n"), picture[:200])
-    # of 1,026 batches of two pieces those count of which a piece is drawn
-    line = "move {} -> {}, 64 bytes, record {}\n".format
-    twos = "".join(line(0x10_0000 + 64 * k, 0x20_0000 + 64 * k, 0x30_0000 + 32 * k) for k in range(2052))
-    for first, last in ((0, 2048), (1, 2049), (3, 2050), (3, 2051), (3, 9999)):
-        refused(f"explain --svg --greatest-batch 2 --from {first} --to {last}", twos, MOST_GROUPS, "131 Picture")
-    told = written("explain --greatest-batch 2", twos)
-    for first, last in ((0, 2047), (1, 2046), (2, 2049), (3, 2049), (4, 9999), (2045, 2046), (2051, 2051)):
-        picture = written(f"explain --svg --greatest-batch 2 --from {first} --to {last}", twos)
-        fault = pictured.plan_fault(picture, told, twos, first, last)
-        common.expect(not fault, f"from {first} to {last} of 2052: {fault}")
 
 
 def arguments():
@@ -508,6 +492,7 @@ def picture():
     pictured.pieces_and_barriers(written)
     pictured.rows_and_parts(written)
     pictured.many_drawn(written)
+    typed.most_groups(written, refused)
     numbers = "--from and --to take the numbers of two pieces, the second not below the first"
     for words in ("--from 3 --to 2", "--from x", "--to 0x"):
         refused(f"explain --svg {words}", PAIR, numbers, "83 Settings")

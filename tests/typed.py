@@ -1,5 +1,6 @@
 """Texts that a person types: with mistakes, each of which dsa_text names; with barriers, which the plan keeps at least
-cost; and of a list that stopped, of which `resume` says what is left, or that two pieces share a record."""
+cost; of a list that stopped, of which `resume` says what is left, or that two pieces share a record; and with as many
+groups as a picture has."""
 import json
 import random
 import re
@@ -8,6 +9,7 @@ import tempfile
 from pathlib import Path
 
 import model
+import pictured
 from common import expect, move
 
 LEAST = model.Settings(4, 4096, 10, 14, 3, 0x10000)
@@ -271,3 +273,20 @@ def sharing(text, folder):
         expect(got == wanted, f"resume of {lines}: wanted {wanted}, got {got}")
     ran = subprocess.run([text, "explain"], input="".join(one_record), capture_output=True, text=True)
     expect((ran.returncode, ran.stderr) == (0, shared_by_all), f"explain of {one_record}: {ran.stderr!r}")
+
+
+def most_groups(written, refused):
+    """A picture has 1,024 groups at most, of which a piece is drawn: of lone pieces, and of batches of two."""
+    said = "1025 groups, a picture has 1024 at most (--from N --to M draws some)"
+    line = "move {} -> {}, 64 bytes, record {}\n".format
+    for options, size in (("--lone 0", 1), ("--greatest-batch 2", 2)):
+        moves = ((0x10_0000 + 64 * k, 0x20_0000 + 64 * k, 0x30_0000 + 32 * k) for k in range(1026 * size))
+        lines = "".join(line(*it) for it in moves)
+        told, end = written(f"explain {options}", lines), 1026 * size - 1
+        refused(f"explain --svg {options}", lines, said.replace("1025", "1026"), "131 Picture")
+        for first, last in ((0, 1025 * size - 1), (size - 1, 1024 * size), (size, end), (2 * size - 1, 9999)):
+            refused(f"explain --svg {options} --from {first} --to {last}", lines, said, "131 Picture")
+        for first, last in ((0, 1024 * size - 1), (size, 1025 * size - 1), (2 * size, 9999), (1019, 1024), (end, end)):
+            svg = written(f"explain --svg {options} --from {first} --to {last}", lines)
+            fault = pictured.plan_fault(svg, told, lines, first, last)
+            expect(not fault, f"{options}, from {first} to {last}: {fault}")

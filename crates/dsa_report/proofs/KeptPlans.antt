@@ -16,7 +16,7 @@ use Rattle.dsa_plan.specs.LegalFaults.{IsFirstLegalFault}
 use Rattle.dsa_tokens.specs.Said.{AddsArray}
 use Rattle.dsa_tokens.specs.Spelled.{Reads}
 use Rattle.dsa_tokens.proofs.Items.{after, array_spelled, no_array_spelled}
-use Rattle.dsa_report.specs.Groups.{AddsGroup, AreGroups}
+use Rattle.dsa_report.specs.Groups.{AreGroups}
 use Rattle.dsa_report.specs.Plan.{group_value, joined, kept_groups, most_groups, plan_value}
 use Rattle.dsa_report.specs.declared.plan.Groups.{Groups}
 
@@ -222,25 +222,30 @@ one_later old new plan group are full first rest flag =
       has_rest = (λ some. omega (arith, le, count), λ many. flag);
     }
 
--- flags that were added to those of later groups are one group more
-pub later_group : (old new : Groups) (d : Data) (each : Bool) → most_groups ≤ length old.first.items → new.first.items ≡ old.first.items → new.has_rest ≡ true
-    → AddsArray (Reads {X = Bool} boolean (λ b. b)) None old.rest.items new.rest.items d each → AddsGroup old new d each
-later_group old new (array ds) true full first flag (flags, each, is) = (
-  flags,
-  array_spelled {A = Bool} boolean (λ b. b) (array ds) flags each,
-  λ plan are. one_later old new plan flags are full first is flag,
-)
-later_group old new null true full first flag e = absurd (cc)
-later_group old new (boolean b) true full first flag e = absurd (cc)
-later_group old new (number n) true full first flag e = absurd (cc)
-later_group old new (string s) true full first flag e = absurd (cc)
-later_group old new (object ms) true full first flag e = absurd (cc)
-later_group old new (array ds) false full first flag other = no_array_spelled {A = Bool} boolean (λ b. b) (array ds) other
-later_group old new null false full first flag e = λ group is. absurd (cc)
-later_group old new (boolean b) false full first flag e = λ group is. absurd (cc)
-later_group old new (number n) false full first flag e = λ group is. absurd (cc)
-later_group old new (string s) false full first flag e = λ group is. absurd (cc)
-later_group old new (object ms) false full first flag e = λ group is. absurd (cc)
+-- among the first groups there are no later ones
+pub no_rest : (g : Groups) (plan : Plan) → AreGroups g plan → length g.first.items < most_groups → g.rest.items ≡ []
+no_rest g plan are less =
+    let lt : length (take most_groups plan) < most_groups = omega (arith, less, ap length are.first) in
+    let few = within most_groups plan [] lt in
+    are.rest ∙ ap (flat_map (λ (flags : Group). flags)) (drop_all most_groups plan (omega (arith, few)))
+
+-- of an array whose flags were added, the flags
+pub added_flags : (old new : Group) (d : Data) → AddsArray (Reads {X = Bool} boolean (λ b. b)) None old new d true → (flags : Group) × (d ≡ group_value flags) × (new ≡ old ++ flags)
+added_flags old new (array ds) (flags, each, is) = (flags, array_spelled {A = Bool} boolean (λ b. b) (array ds) flags each, is)
+added_flags old new null e = absurd (cc)
+added_flags old new (boolean b) e = absurd (cc)
+added_flags old new (number n) e = absurd (cc)
+added_flags old new (string s) e = absurd (cc)
+added_flags old new (object ms) e = absurd (cc)
+
+-- and of another value, that it is no group
+pub no_flags : (old new : Group) (d : Data) → AddsArray (Reads {X = Bool} boolean (λ b. b)) None old new d false → (group : Group) → d ≢ group_value group
+no_flags old new (array ds) other = no_array_spelled {A = Bool} boolean (λ b. b) (array ds) other
+no_flags old new null e = λ group is. absurd (cc)
+no_flags old new (boolean b) e = λ group is. absurd (cc)
+no_flags old new (number n) e = λ group is. absurd (cc)
+no_flags old new (string s) e = λ group is. absurd (cc)
+no_flags old new (object ms) e = λ group is. absurd (cc)
 
 -- ---- items of plans
 

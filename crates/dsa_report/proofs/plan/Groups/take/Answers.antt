@@ -1,43 +1,41 @@
-use Rattle.std.proofs.Common.{◌<◌, ◌≤◌, Bool, [], ◌∷◌, ◌++◌, length, None, refl, ap, ◌∙◌, arith}
+use Rattle.std.proofs.Common.{◌<◌, ◌≤◌, Bool, List, [], ◌∷◌, ◌++◌, length, refl, sym, ap, ◌∙◌, arith}
 use Rattle.std.proofs.lemmas.Grind.{common_steps}
-use Rattle.json.specs.Reads.{token_of}
-use Rattle.serde_json.specs.Data.{boolean}
-use Rattle.dsa_tokens.specs.Said.{AddsArray}
-use Rattle.dsa_tokens.specs.Spelled.{Reads}
-use Rattle.dsa_tokens.proofs.Items.{array_spelled, no_array_spelled}
-use Rattle.dsa_tokens.proofs.Read.{answers_as}
-use Rattle.dsa_report.specs.Groups.{AddsGroup}
 use Rattle.dsa_report.specs.Plan.{most_groups}
-use Rattle.dsa_report.proofs.KeptPlans.{later_group, one_first}
+use Rattle.dsa_report.proofs.KeptPlans.{added_flags, no_flags, no_rest, one_first, one_later}
 use Rattle.dsa_report.proofs.plan.Groups.take.Goals as goal
 
-pub returns-in_default : goal.returns-in_default
-returns-in_default c =
+pub returns-then-not-branch : goal.returns-then-not-branch
+returns-then-not-branch c =
     let is = c.in_ok-first.ensures.ok in
-    let list = rw c.in_default.is at c.in_ok-fences.ensures in
-    (list.0, rw is list.1, no_array_spelled {A = Bool} boolean (λ b. b) list.0 list.2, rw is list.3)
+    let read = rw c.if-not-branch.true at c.in_ok-array_into.ensures in
+    (read.0, rw is read.1, no_flags c.args.self.now.rest.items c.array_into.new.found.items read.0 read.2, rw is read.3)
 
-pub returns-then-len-lt-MOST_GROUPS : goal.returns-then-len-lt-MOST_GROUPS
-returns-then-len-lt-MOST_GROUPS c =
-    let is = c.in_ok-first.ensures.ok in
-    let list = rw c.in-Some.is at c.in_ok-fences.ensures in
-    let flags = c.in-Some.fences.items in
+pub returns-in_ok-push : goal.returns-in_ok-push
+returns-in_ok-push c =
     let old = c.args.self.now in
+    let is = c.in_ok-first.ensures.ok in
+    let read = rw c.if-not-branch.false at c.in_ok-array_into.ensures in
+    let (flags, spelled, added) = added_flags old.rest.items c.array_into.new.found.items read.0 read.2 in
     let few : length old.first.items < most_groups = grind (arith, common_steps, c.len.ensures, c.if-len-lt-MOST_GROUPS.true) in (
-      list.0,
-      rw is list.1,
+      read.0,
+      rw is read.1,
       (
         flags,
-        array_spelled {A = Bool} boolean (λ b. b) list.0 flags list.2,
-        λ plan are. one_first old _ plan flags are few (c.in_ok-push.ensures.items ∙ ap (λ g. old.first.items ++ g ∷ []) c.new.ensures) refl refl,
+        spelled,
+        λ plan are.
+            let none = no_rest old plan are few in
+            let own = ap (λ v. v.items) c.replace-fences.ensures.value ∙ added ∙ ap (λ (l : List Bool). l ++ flags) none in
+            one_first old _ plan flags are few (c.in_ok-push.ensures.items ∙ ap (λ (g : List Bool). old.first.items ++ g ∷ []) (c.new-then-len-lt-MOST_GROUPS.ensures ∙ own))
+            (ap (λ v. v.items) c.replace-fences.ensures.after ∙ c.new.ensures.items ∙ sym none) refl,
       ),
-      rw is list.3,
+      rw is read.3,
     )
 
-pub returns : goal.returns
-returns c =
+pub returns-else-len-lt-MOST_GROUPS : goal.returns-else-len-lt-MOST_GROUPS
+returns-else-len-lt-MOST_GROUPS c =
     let old = c.args.self.now in
+    let is = c.in_ok-first.ensures.ok in
+    let read = rw c.if-not-branch.false at c.in_ok-array_into.ensures in
+    let (flags, spelled, added) = added_flags old.rest.items c.array_into.new.found.items read.0 read.2 in
     let full : most_groups ≤ length old.first.items = grind (arith, common_steps, c.len.ensures, c.if-len-lt-MOST_GROUPS.false) in
-    rw c.in_ok-first.ensures.ok
-    (answers_as (AddsArray (Reads {X = Bool} boolean (λ b. b)) None old.rest.items c.array_into.new.found.items) (AddsGroup old _) c.args.depth (token_of c.in_ok-first.first ∷ c.next.new.reader) c.array_into.new.reader c.array_into.result
-    (λ d each says. later_group old _ d each full refl refl says) c.array_into.ensures)
+    (read.0, rw is read.1, (flags, spelled, λ plan are. one_later old _ plan flags are full refl added refl), rw is read.3)

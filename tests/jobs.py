@@ -66,6 +66,21 @@ def texts():
         expect(f'{{"do":{name}}}', "refused 82 Do")
 
 
+CUT_SHORT = ['"', '"\\', '"\\u12', '"\\ud83d', '"\\ud83d\\u12', "[", "1.", "1e", "-", "tru"]
+
+
+def ends():
+    """What follows a text: blanks, few and many, or another byte before or after them; texts that end too early."""
+    text = judge(PAIR, FENCED)
+    for count in (1, 4095, 4096, 4097, 8200):
+        for blank in " \t\n\r":
+            expect(text + blank * count, '{"cost":17}')
+            expect("1" + blank * count, "refused 81 Member")
+        for wrong in [*CUT_SHORT, text + "\f"]:
+            expect(wrong + " " * count, "refused 80 Json")
+        expect(text + "\n" * count + "\f", "refused 80 Json")
+
+
 def members():
     """Members of other kinds, further and missing ones, twice, and in another order."""
     other = [judge(PAIR, FENCED, x=0), judge(PAIR, [[0]]), judge(PAIR, "{}"), judge(PAIR, "0")]
@@ -499,7 +514,7 @@ def longest():
     expect(b" " * 67_108_865, "refused 86 JobTooLong")
 
 
-PARTS = [texts, members, limits_of_settings, fields, splits, plans, answers, many_overlaps, short_lists]
+PARTS = [texts, ends, members, limits_of_settings, fields, splits, plans, answers, many_overlaps, short_lists]
 PARTS += [rising_lists, around_the_staging_area, steps, steps_over_blocks, emissions, order_of_faults, traces, longest]
 
 

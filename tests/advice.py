@@ -228,7 +228,7 @@ def denied():
     recording = CASES["plain"][0]
     for words, status in [("guarding", 0), ("signalling", 1), ("needless", 0), ("nothing", 0)]:
         common.expect(audit(recording, f"--deny {words}").returncode == status, f"--deny {words}: not {status}")
-    for words, status in [("needless", 0), ("nothing", 1), ("unseen,nothing --json", 1), ("nothing --list", 0)]:
+    for words, status in [("needless", 0), ("nothing", 1), ("unseen,nothing --json", 1), ("nothing --write-accept", 0)]:
         common.expect(audit(b"", f"--deny {words}").returncode == status, f"--deny {words} of nothing: not {status}")
 
 

@@ -303,6 +303,8 @@ STOPPED = {
     "lost": SILENT.format(10000, "enabled") + HELD + DONE + SILENT.format(10000, "enabled"),
     "disabled": FULL.format(QUEUES[0], 10000) + SILENT.format(10000, "disabled"),
     "populated": DONE + DONE,
+    "blamed": "operation 1: page fault at 0x1000 (write, status 0x3): nothing is mapped there, or it is not for "
+    "writing; correct the address or the mapping\n",
     "overlapping": DONE + DONE,
     "endless": "operation 0: pages are absent again each time they were made present; pin the buffers\n",
     "batches": DONE + "a batch has failed with status 0x14, which linux/idxd.h names; correct the queue's "
@@ -422,6 +424,8 @@ WRONG = [
      "(is_from_end(d) ? count - 1 - k : k)", "k", "split"),
     ("an overlapping move is done again", "fault.c",
      "        shorten(list->rest + at, record_of(list->rest + at));\n", "", "lists"),
+    ("a page fault that was mended is said", "fault.c", "                list->stopped_at = record;\n",
+     "                list->stopped_at = list->records;\n", "blamed"),
     ("a failed check is forgotten", "fault.c", "        list->has_failed_check = true;\n", "        ;\n", "journal"),
     ("nothing is left out", "flight.c", "ready = leave_out(queue, ready);", ";", "deep"),
     ("the end of a start is not noted", "flight.c", "    tell(list, how);\n", "", "after"),
@@ -458,6 +462,7 @@ RUNS = {
     "misplaced": ["ends", "misplaced", QUEUES[0]],
     "after": ["stopped", "after"],
     "in_flight": ["stopped", "in_flight"],
+    "blamed": ["stopped", "blamed"],
 }
 WITHOUT = {"stopped": "portal.c"}
 

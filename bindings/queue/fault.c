@@ -59,7 +59,7 @@ static bool is_from_end(const uint8_t *d)
 /// looked at, so that a check that has failed is known.
 static bool can_all_go_on(struct dsa_list *list, uint64_t *len)
 {
-    bool can = true;
+    list->stopped_at = NULL;
     *len = 0;
     for (uint64_t at = 0; at < list->left_len; at += ENTRY) {
         const uint8_t *d = list->left + at;
@@ -67,10 +67,11 @@ static bool can_all_go_on(struct dsa_list *list, uint64_t *len)
         for (uint64_t k = 0; k < count; k++, *len += RECORD) {
             const uint8_t *record = record_of(d) + RECORD * (is_from_end(d) ? count - 1 - k : k);
             memcpy(list->gathered + *len, record, RECORD);
-            can = can_go_on(list, d, record) && can;
+            if (!can_go_on(list, d, record) && !list->stopped_at)
+                list->stopped_at = record;
         }
     }
-    return can;
+    return !list->stopped_at;
 }
 
 /// A move goes on where it has stopped. One within its own range has to: it has overwritten a part of its source.

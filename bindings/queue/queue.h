@@ -59,6 +59,7 @@ struct dsa_list {
     bool is_planned;                 /* portal and staging submit the operations as they are */
     bool is_resumed;                 /* `left` has what is left of them */
     bool has_failed_check;
+    const uint8_t *stopped_at;       /* the first record that says why it can't go on, or NULL */
     _Atomic bool is_lost;            /* the device has not answered its entry in time; cleared under the lock */
     uint32_t operations, pieces, entries, entry; /* `entry`: the next, or the one that has failed */
     uint32_t at_fault;               /* the operation of `trouble` */

@@ -21,6 +21,7 @@ static bool prepare(struct dsa_list *list)
 {
     memset(list->records, 0, RECORD * (size_t)list->pieces);
     list->has_failed_check = list->is_resumed = false;
+    list->stopped_at = NULL;
     list->entry = 0;
     list->port = NULL;
     if (!list->is_planned)

@@ -27,6 +27,12 @@ static int weight(uint8_t status)
     return is_page_fault(status) ? 2 : 3;
 }
 
+/// The same of a record; of page faults that most after which the list could not go on, since others were mended.
+static int weight_of(const struct dsa_list *list, const uint8_t *record)
+{
+    return 2 * weight(status_of(record)) + (record == list->stopped_at);
+}
+
 struct dsa_result dsa_list_result(const struct dsa_list *list, int operation)
 {
     struct dsa_result result = {0, 0, 0, 0, 0};
@@ -39,7 +45,7 @@ struct dsa_result dsa_list_result(const struct dsa_list *list, int operation)
     const uint8_t *records = list->records + RECORD * (size_t)first, *said = records;
     for (uint32_t i = 0; i < count; i++) {
         const uint8_t *record = records + RECORD * (size_t)i;
-        if (weight(status_of(record)) > weight(status_of(said)))
+        if (weight_of(list, record) > weight_of(list, said))
             said = record;
         if (is_compare && !result.result && record[1] && !is_page_fault(status_of(record))) {
             result.result = 1;
@@ -54,7 +60,16 @@ struct dsa_result dsa_list_result(const struct dsa_list *list, int operation)
     return result;
 }
 
-/// An operation that a page fault has stopped counts only if no other has failed: it may have been left for that.
+/// Whether the list could not go on after a piece of this operation.
+static bool has_stopped(const struct dsa_list *list, int operation)
+{
+    const uint32_t *first = list->first + operation;
+    return list->stopped_at && list->stopped_at >= list->records + RECORD * (size_t)first[0] &&
+           list->stopped_at < list->records + RECORD * (size_t)first[1];
+}
+
+/// An operation that a page fault has stopped counts only if no other has failed, and of these the one after which the
+/// list could not go on: the others may have been left for that.
 int dsa_list_failed(const struct dsa_list *list)
 {
     int fault = -1;
@@ -62,7 +77,7 @@ int dsa_list_failed(const struct dsa_list *list)
         const uint8_t status = dsa_list_result(list, i).status;
         if (weight(status) == 3)
             return i;
-        if (is_page_fault(status) && fault < 0)
+        if (is_page_fault(status) && (fault < 0 || has_stopped(list, i)))
             fault = i;
     }
     return fault;

@@ -275,6 +275,32 @@ static void populated(void)
     EXPECT(is_present(written + PAGE));
 }
 
+static uint8_t *beside; /* the record of the operation that is done at once with the first */
+
+/* A page fault of both: at a page until it is present, and at one that can't be. */
+static uint8_t at_both(const uint8_t *d, uint8_t *record)
+{
+    if (d[7] == OPCODE_BATCH || is_present(absent[0]))
+        return 0;
+    beside[0] = page_fault(beside, (const void *)(uintptr_t)PAGE, 0, 0, 0x83);
+    return page_fault(record, absent[0], 0, 0, 3);
+}
+
+/* Of two page faults the one that can't be mended is said, and not the one before it that was. */
+static void blamed(void)
+{
+    struct dsa_list *list = list_of(NULL);
+    absent[0] = fresh(SIZE);
+    ended = at_both;
+    dsa_list_move(list, absent[0], b, PAGE);
+    dsa_list_move(list, a, (void *)(uintptr_t)PAGE, 64);
+    beside = list->records + RECORD * (size_t)list->first[1];
+    ends(list, DSA_LIST_FAILED);
+    const struct dsa_result r = dsa_list_result(list, 1);
+    EXPECT(is_present(absent[0]) && dsa_list_failed(list) == 1);
+    EXPECT(r.fault == PAGE && r.is_write && r.status == 3);
+}
+
 static uint32_t stops[4][2]; /* how much is done of the moves, and whether from their ends */
 static int stopped;
 static uint64_t seen[8][3]; /* the moves that came: source, target, size */
@@ -387,8 +413,8 @@ int main(int argc, char **argv)
 {
     static const struct { const char *name; void (*run)(void); } cases[] = {
         {"lost", lost}, {"in_flight", in_flight}, {"after", after}, {"disabled", disabled},
-        {"populated", populated}, {"overlapping", overlapping}, {"endless", endless}, {"batches", batches},
-        {"other_status", other_status},
+        {"populated", populated}, {"blamed", blamed}, {"overlapping", overlapping}, {"endless", endless},
+        {"batches", batches}, {"other_status", other_status},
     };
     for (size_t i = 0; argc > 1 && i < sizeof cases / sizeof *cases; i++)
         if (strcmp(argv[1], cases[i].name) == 0) {

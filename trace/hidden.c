@@ -1,7 +1,7 @@
-/* What accepted errors hide. An accepted pair hides no other from dsa_text, but it knows keys alone, and here a key is
- * accepted at places. So it judges the process again with the keys of all places that have accepted errors, until there
- * are no more such places, and then without each of these keys once, since an error elsewhere may have it. What it
- * finds is judged by its own place, and counts too. */
+/* What accepted errors hide. An accepted pair hides no other from dsa_text (but one of shared records), which knows
+ * keys alone, and here a key is accepted at places. So it judges the process again with the keys of all places that
+ * have accepted errors, until there are no more such places, and then without each of these keys once, since an error
+ * elsewhere may have it. What it finds is judged by its own place, and counts too. */
 #include <inttypes.h>
 #include <stdlib.h>
 #include <string.h>

@@ -244,17 +244,21 @@ def pages():
         source.write_bytes(gzip.decompress(Path(PREFIX, f"share/man/{page}.gz").read_bytes()))
         end = ran("man", "--warnings", "-l", source, MANWIDTH="200", LC_ALL="C.UTF-8")
         expect(end.returncode == 0 and not end.stderr, f"man {page}: {end.stderr[:500]}")
-        shown[page] = end.stdout
+        shown[page] = " ".join(end.stdout.split())
     words = {"man1/dsa.1": ["no arguments", "nothing to standard error", "Unfenced", "greatest_transfer", "DualcastBits"], "man3/dsa_planner.3": make.exported()}
     words["man1/dsa_text.1"] = ["--greatest-batch", "--svg", "--at", "dualcast"]
     words["man1/dsa_jobs.1"] = ["no arguments", "67,108,864", "before it reads on"]
     words |= {"man1/dsa_trace.1": ["--seeds", "--no-namespace"], "man1/dsa_prices.1": ["--options"]}
-    words["man3/dsa_queue.3"] = [*make.exported(make.QUEUE / "dsa_queue.h"), "dsa_list_check"]
+    words["man3/dsa_queue.3"] = [*make.exported(make.QUEUE / "dsa_queue.h"), "dsa_list_check", "DSA_QUEUE_OR_SOFTWARE",
+                                 "One list for buffers that change"]
     for page, wanted in words.items():
         missing = [word for word in wanted if word not in shown[page]]
         expect(not missing, f"{page} does not say {missing}")
         is_plain = page.endswith("3") or not re.search(r"`|\*\*", shown[page])
         expect(is_plain, f"{page} has marks of Markdown")
+    in_turn = ["void dsa_list_barrier", "What is added next begins", "enum dsa_end {", "enum dsa_end dsa_list_run"]
+    in_turn = [shown["man3/dsa_queue.3"].find(words) for words in [*in_turn, "Plans the list"]]
+    expect(-1 not in in_turn and in_turn == sorted(in_turn), f"comments below their declarations are at {in_turn}")
 
 
 def documents():

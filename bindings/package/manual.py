@@ -155,8 +155,9 @@ nothing to standard error.
 
 def dsa_text(head, program):
     """dsa_text(1)."""
-    synopsis = "".join(f".B dsa_text {name}\n[OPTIONS] [FILE]\n.br\n" for name in commands_of(help_of(program)))
     texts = [(name, help_of(program, name)) for name in commands_of(help_of(program))]
+    usages = [(name, re.search(rf"^Usage: dsa_text {name} (.*)", text, re.M)[1]) for name, text in texts]
+    synopsis = "".join(f".B dsa_text {name}\n{plain(usage)}\n.br\n" for name, usage in usages)
     described = "".join(roff(f"## {name}") + roff(text.split("\n")[0] + ".") + options(text) for name, text in texts)
     return PAGE.format(title="DSA_TEXT", section=1, **head) + sections(
         NAME=plain("dsa_text - descriptors of the data streaming accelerator as text, and explanations of plans") + "\n",
@@ -176,19 +177,29 @@ def options(text):
     return "\n".join(out) + "\n"
 
 
+def declared(code, comment):
+    """Declarations, and below the first, up to an empty line, its comment; a comment of none is an introduction."""
+    shown_of = lambda part: "\n".join([".PP", ".nf", *map(plain, part.split("\n")), ".fi"]) + "\n"
+    parts = [shown_of(part) for part in code.split("\n\n") if part]
+    about = paragraphs(comment)
+    if not parts or not comment:
+        return about + "".join(parts)
+    return f"{parts[0]}.RS 4\n{about}.RE\n" + "".join(parts[1:])
+
+
 def of_header(head, path, *see):
     """A page of section 3, from the comments of a header and what follows each."""
     header, title = (ROOT / path).read_text(), Path(path).stem
     blocks = re.findall(r"^/\*(.*?)\*/\n(.*?)(?=^/\*|\Z)", header, re.M | re.S)
-    about, rest = blocks[0][0], blocks[1:]
+    about, blocks[0] = blocks[0][0], ("", blocks[0][1])
     name, about = re.match(rf"\s*\* {title}\.h: (.*?)\n \*\n(.*)", about, re.S).groups()
     calls = []
-    for comment, code in rest:
+    for comment, code in blocks:
+        code = re.sub(rf"^#(ifndef|define) {title.upper()}_H\n|^#include.*\n", "", code, flags=re.M)
         code = re.sub(r"^#ifdef __cplusplus\n#define.*?^#else\n", "", code, flags=re.M | re.S)
-        code = re.sub(r"^static inline (.*?)\n\{.*?^\}\n\n?", r"\1;\n", code, flags=re.M | re.S)
+        code = re.sub(r"^static inline (.*?)\n\{.*?^\}\n", r"\1;\n", code, flags=re.M | re.S)
         code = re.sub(r"^#(ifdef|else|endif|if).*\n|^extern \"C\" \{\n|^}\n", "", code, flags=re.M).strip("\n")
-        if code:
-            calls.append("\n".join(shown(code.split("\n"))) + "\n" + paragraphs(comment))
+        calls.append(declared(code, comment))
     sections_of = {"dsa_planner": 3}
     return PAGE.format(title=title.upper(), section=3, **head) + sections(
         NAME=plain(f"{title} - {name.split(',')[0].rstrip('.')}") + "\n",

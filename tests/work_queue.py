@@ -197,10 +197,12 @@ SILENT = QUEUES[0] + " has not answered for {} ms; it is {}; leave the buffers a
 SILENT += "use them\n"
 LACKING = "the prices are {} for a lone descriptor, {} for a batch and {} for a fence; give those of both a lone "
 LACKING += "descriptor and a batch, or none\n"
+ABOVE = "the prices are {} for a lone descriptor, {} for a batch and {} for a fence, and none may be above 1000000000\n"
 SAID = {
     "options": "a queue has at most 64 lists, and a list at most 65536 pieces\n"
     "no flag of a queue is AT; dsa_queue.h has them\n"
-    + "".join(LACKING.format(*it) for it in ((7, 0, 0), (0, 8, 0), (0, 0, 9), (7, 0, 9), (0, 8, 9))),
+    + "".join(LACKING.format(*it) for it in ((7, 0, 0), (0, 8, 0), (0, 0, 9), (7, 0, 9), (0, 8, 9)))
+    + "".join(ABOVE.format(*it) for it in ((1000000001, 8, 0), (7, 8, 1000000001))),
     "absent": FAULT.format(1, "read", 3, "reading") + "at the page 1\n" + DONE + FAULT.format(0, "write", 3, "writing"),
     "kept": KEPT.format(3) + KEPT.format(4),
     "both": CHECKED.format(1, "the first difference is at byte 0"),
@@ -292,7 +294,7 @@ def opening():
         skip("opening without the right, which needs root and setpriv")
     if not Path(DEVICES).exists():
         ended("opening without a device", ran(client("ends"), "open"),
-              f"there is no device: the driver idxd has made no {DEVICES}\n", 2)
+              f"there is no device: the driver idxd has made no {DEVICES}; dsa_trace has one in software\n", 2)
 
 
 HELD = "the device has not answered what was submitted of this list before; use another list\n"

@@ -198,7 +198,8 @@ bool driver_open_first(struct dsa_queue *queue, char why[DSA_WHY_ROOM])
     }
     free(names);
     if (count < 0)
-        return why_not(why, "there is no device: the driver idxd has made no %s", folder);
+        return why_not(why, "there is no device: the driver idxd has made no %s; dsa_trace has one in software",
+                       folder);
     if (!is_said)
         return why_not(why, "no queue of type user is enabled in %s; accel-config load-config makes one", folder);
     return is_open;

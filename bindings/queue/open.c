@@ -4,7 +4,7 @@
 
 #include "queue.h"
 
-enum { DEFAULT_WAIT = 10000, GREATEST_BATCH = 1024 };
+enum { DEFAULT_WAIT = 10000, GREATEST_BATCH = 1024, GREATEST_PRICE = 1000000000 };
 static const uint64_t greatest_transfer = UINT64_C(1) << 31;
 
 /// The limits of software: it splits nothing that a device need not.
@@ -78,7 +78,7 @@ static void set_name_and_prices(struct dsa_queue *queue, const char *name)
     if (settings->greatest_batch < 2) {
         settings->greatest_batch = 2;
         settings->lone = 1;
-        settings->batch = 1000000000;
+        settings->batch = GREATEST_PRICE;
     }
 }
 
@@ -112,6 +112,19 @@ static bool has_waitpkg(void)
     return c >> 5 & 1;
 }
 
+/// Whether the prices are those of a plan, or all 0; else why not.
+static bool are_prices(const struct dsa_queue_options *o, char why[DSA_WHY_ROOM])
+{
+    const unsigned long long lone = o->lone, batch = o->batch, fence = o->fence;
+    if ((lone | batch | fence) && !(lone && batch))
+        return why_not(why, "the prices are %llu for a lone descriptor, %llu for a batch and %llu for a fence; give "
+                       "those of both a lone descriptor and a batch, or none", lone, batch, fence);
+    if (lone > GREATEST_PRICE || batch > GREATEST_PRICE || fence > GREATEST_PRICE)
+        return why_not(why, "the prices are %llu for a lone descriptor, %llu for a batch and %llu for a fence, and "
+                       "none may be above %d", lone, batch, fence, GREATEST_PRICE);
+    return true;
+}
+
 /// Whether the options are those of a queue that can be; else why not.
 static bool are_right(const struct dsa_queue_options *o, char why[DSA_WHY_ROOM])
 {
@@ -121,11 +134,7 @@ static bool are_right(const struct dsa_queue_options *o, char why[DSA_WHY_ROOM])
         return why_not(why, "a queue has at most %d lists, and a list at most %u pieces", MOST_LISTS, DSA_MOST_PIECES);
     if (o->flags & ~known)
         return why_not(why, "no flag of a queue is %#x; dsa_queue.h has them", o->flags & ~known);
-    if ((o->lone | o->batch | o->fence) && !(o->lone && o->batch))
-        return why_not(why, "the prices are %llu for a lone descriptor, %llu for a batch and %llu for a fence; give "
-                       "those of both a lone descriptor and a batch, or none", (unsigned long long)o->lone,
-                       (unsigned long long)o->batch, (unsigned long long)o->fence);
-    return true;
+    return are_prices(o, why);
 }
 
 static void set_options(struct dsa_queue *queue, const struct dsa_queue_options *o)

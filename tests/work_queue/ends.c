@@ -74,8 +74,9 @@ static int options(void)
     is_refused = is_refused && !dsa_queue_open(file, &unknown, why);
     printf("%s\n", why);
     const struct dsa_queue_options lacking[] = {{.lone = 7}, {.batch = 8}, {.fence = 9}, {.lone = 7, .fence = 9},
-                                                {.batch = 8, .fence = 9}};
-    for (int i = 0; i < 5; i++) {
+                                                {.batch = 8, .fence = 9}, {.lone = 1000000001, .batch = 8},
+                                                {.lone = 7, .batch = 8, .fence = 1000000001}};
+    for (int i = 0; i < 7; i++) {
         is_refused = is_refused && !dsa_queue_open(file, &lacking[i], why);
         printf("%s\n", why);
     }

@@ -371,7 +371,8 @@ def audited_runs():
     for lacking, how, status, words in (
             (2, [], 1, ["the audits of 1 of 3 runs find errors; to repeat seed 2:", "dsa_trace --seed 2 --audit -- sh",
                         "(submission 1): error: missing wait"]),
-            (9, [], 0, ["the audits of 3 runs find no errors; the last:"]),
+            (9, [], 0, ["the audits of 3 runs find no errors; that of seed 3:"]),
+            (9, ["--seed", 2, "--no-watch"], 0, ["the audits of 3 runs find no errors; that of seed 3:"]),
             (2, ["--out", f"{WORK}/audited"], 1, ["find errors"])):
         program = f"[ $DSA_TRACE_SEED = {lacking} ] && exec {client('ordered')} blind; exec {client('ordered')} waited"
         end = audited("--seeds", 3, *how, "--", "sh", "-c", program)
@@ -420,6 +421,8 @@ def options():
     told("--help", end, 0, "Usage: dsa_trace [OPTIONS] [--] PROGRAM", "Examples:")
     for words, why in ((["--nonsense"], "no such option"), ([], "the program to run is missing"),
                        (["--seed"], "whole number"), (["--seed", "x"], "whole number"), (["--seeds", "0"], "at least"),
+                       (["--audit=no"], "--audit: this option takes no value"),
+                       (["--deny", "stale", "--deny=unseen"], "--deny: this option is given twice"),
                        (["--order", "x"], "fifo, members, data or all"), (["--queue", "shared,0,x"], "from 1 to 128")):
         told(f"the options {words}", traced(*words, *(["--", "true"] if words else [])), 125, why)
     told("a value after =", traced("--seed=7", "--order=all", "true"), 0)
@@ -427,7 +430,7 @@ def options():
     wanted = "dsa_trace: the program to run is missing (see dsa_trace --help)\n"
     expect(bare.stderr == wanted, f"without a program is said {bare.stderr}")
     names = re.findall(r"^ +(?:-[hV], )?(--[a-z-]+)", end.stdout, re.M)
-    expect(len(names) == 33, f"--help names {names}")
+    expect(len(names) == 34, f"--help names {names}")
     page = Path("bindings/package/dsa_trace.1").read_text().replace("\\-", "-")
     completion = Path("bindings/package/dsa_trace.bash").read_text()
     missing = [name for name in names if name not in page or name not in completion]

@@ -100,7 +100,7 @@ def noted():
 def fitting():
     """An accepted line that no process of any run needs is named once, and --deny stale makes it an error."""
     runs = by_seed(s1="ordered blind", s2="ordered fence", s3="unseen right", s4="unseen stale")
-    other = WAIT.replace("8192", "9")
+    other = FENCE.replace("8192", "9")
     known = accepting("# known", WAIT, FENCE, STALE, other)
     line = f"known.txt: line 5: note: this fits nothing: {other}\n"
     for denied, status, said in ("unseen", 0, line), ("stale", 1, line.replace("note", "error")):
@@ -114,6 +114,14 @@ def fitting():
     end = audited("--deny", "stale", *accepting(WAIT, FENCE, STALE), *runs)
     told("lines that all fit", end, 0)
     expect("fits nothing" not in end.stdout, f"lines that all fit: {end.stdout}")
+    Path(WORK, "known.txt").write_bytes(f"\ufeff{WAIT} \r\n".encode())  # as other systems write it
+    known_as = ["--accept", f"{WORK}/known.txt", "--order", "fifo", "--", client("ordered"), "blind"]
+    end = audited("--deny", "stale", *known_as)
+    told("a key with a carriage return", end, 0)
+    for order, status in (("fifo", 0), ("data", 1)):
+        end = audited("--deny", "stale", *accepting(WAIT), "--order", order, "--", *client("ordered waited").split())
+        told(f"the key of a wait that is not missing, in order {order}", end, status)
+        expect(end.stdout.count("fits nothing") == status, f"such a key in order {order}: {end.stdout}")
     for what, status, words in (
         ("a part of a run", 125, ["sh", "-c", f"{client('unseen')} right; rm $DSA_TRACE_OUT/*"]),
         ("a program that fails", 3, ["sh", "-c", f"{client('unseen')} right; exit 3"]), ("no submission", 1, ["true"]),
@@ -215,7 +223,7 @@ def in_junit():
     expect([it[1][:2] for it in found] == [("error", "the audit has seen a part of the run")], f"the cases are {found}")
     found = cases("--timeout", 1, "--", "sleep", 100, status=124)
     expect(found == [("sleep, seed 1", ("error", "the program was ended by --timeout", ""))], f"the cases are {found}")
-    other = WAIT.replace("8192", "9")
+    other = FENCE.replace("8192", "9")
     known = accepting(WAIT, "# known", other)
     runs = by_seed(s1="ordered blind", s2="unseen right")
     passed = [("sh, seed 1",), ("sh, seed 2",)]

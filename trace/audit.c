@@ -70,6 +70,7 @@ static void become(const char *dsa_text, const struct audit_options *o, const ch
     char events[32], recording[32], accepted[32];
     const char *const pairs[][2] = {{"--accept", o->accepted ? inherited(accepted, o->accepted) : o->accept},
                                     {"--deny", o->deny}, {"--await", o->await}, {"--greatest-batch", o->greatest_batch},
+                                    {"--greatest-transfer", o->greatest_transfer},
                                     {"--lone", o->lone}, {"--batch", o->batch}, {"--batches", o->batches},
                                     {"--fence", o->fence}, {"--events", g ? inherited(events, g->events) : NULL}};
     const char *all[2 * sizeof pairs / sizeof *pairs + 6], **words = all;

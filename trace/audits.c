@@ -123,14 +123,17 @@ static FILE *answer_of(struct audits *all, const struct gathered *g, bool each, 
     *found = audit_text(all->dsa_text, &all->options, is_json ? "--json" : each ? "--all" : NULL, g, answer);
     if (*found > 1)
         return answer;
-    if (!is_json)
-        return looks_explain(stale_take(&all->stale, NULL, NULL, answer), g);
-    if (!all->options.accept)
-        return answer;
-    FILE *words = in_memory("the answer of dsa_text");
-    audit_text(all->dsa_text, &all->options, NULL, g, words);
-    fclose(stale_take(&all->stale, NULL, NULL, words));
-    return stale_cut(answer);
+    bool is_unseen = false;
+    if (!is_json) {
+        answer = looks_explain(stale_take(&all->stale, NULL, NULL, answer), g, &is_unseen);
+    } else if (all->options.accept) {
+        FILE *words = in_memory("the answer of dsa_text");
+        audit_text(all->dsa_text, &all->options, NULL, g, words);
+        fclose(looks_explain(stale_take(&all->stale, NULL, NULL, words), g, &is_unseen));
+        answer = stale_cut(answer);
+    }
+    all->seen += g->submissions > 0 && !is_unseen;
+    return answer;
 }
 
 /// Says what of a process is not audited; answers whether all of it is.
@@ -286,11 +289,28 @@ static void keep(struct audits *a, uint64_t seed, const struct audited *it, int 
     a->kept += is_kept;
 }
 
+/// Keeps the last report as the one that is shown if no run has errors, unless it has no submission, or only an earlier
+/// one looked for missing waits.
+static void show(struct audits *a, uint64_t seed, bool is_empty, bool seeks_waits)
+{
+    if (a->shown && (is_empty || (a->shows_waits && !seeks_waits)))
+        return;
+    if (a->shown)
+        fclose(a->shown);
+    a->shown = a->last;
+    a->shown_seed = seed;
+    a->shows_waits = seeks_waits;
+}
+
+/// How many processes looked for missing waits.
+static unsigned long long seeking(const struct audits *a) { return a->processes - a->at_once; }
+
 /// Audits a run. In a text the reports that are kept are headed by their seeds if `is_one_of_many`.
 enum verdict audit_run(struct audits *a, const struct run *run, bool is_one_of_many)
 {
     static const char *const names[] = {[CLEAN] = "clean", [ERRORS] = "errors", [PART] = "part", [EMPTY] = "empty"};
-    if (a->last)
+    const unsigned long long before = seeking(a);
+    if (a->last != a->shown)
         fclose(a->last);
     a->last = in_memory("the report of a run");
     struct audited it = {.all = a, .records = run->records, .report = a->last, .is_new = run->board};
@@ -308,25 +328,9 @@ enum verdict audit_run(struct audits *a, const struct run *run, bool is_one_of_m
                 names[verdict]);
     a->empty += submitted == 0;
     keep(a, run->seed, &it, status, is_one_of_many ? "\n" : "");
+    show(a, run->seed, it.recorded == 0, seeking(a) > before);
     keys_forget(&it.keys);
     return verdict;
-}
-
-/// Of several runs: how many have errors or were seen in part, and of which the first report is.
-static void say_which(const struct audits *a, const struct options *o, bool has_failed)
-{
-    if (!a->faulty && !a->partial) {
-        const bool is_text = !o->audit.is_json && !o->audit.writes_keys;
-        fprintf(stderr, "dsa_trace: the audits of %llu runs find no errors%s\n", a->runs, is_text ? "; the last:" : "");
-        return;
-    }
-    fprintf(stderr, "dsa_trace: the audits of %llu of %llu runs find errors", a->faulty, a->runs);
-    if (a->partial)
-        fprintf(stderr, ", and those of %llu have seen a part", a->partial);
-    const bool is_repeated = !has_failed && !o->report; /* else it is said already how to run one again */
-    fprintf(stderr, "; %s %" PRIu64 ":\n", is_repeated ? "to repeat seed" : "the first is seed", a->seed);
-    if (is_repeated)
-        options_repeat(o, a->seed);
 }
 
 /// How many lines of --accept are keys of errors that were found.
@@ -336,6 +340,26 @@ static size_t accepted_count(const struct stale *s)
     for (size_t i = 0; i < s->count; i++)
         count += s->lines[i].is_used && *s->lines[i].text >= 'a' && *s->lines[i].text <= 'z';
     return count;
+}
+
+/// Of several runs: how many have errors or were seen in part, and of which the first report is.
+static void say_which(const struct audits *a, const struct options *o, bool has_failed)
+{
+    if (!a->faulty && !a->partial) {
+        const char *const but = accepted_count(&a->stale) ? " but those that are accepted" : "";
+        fprintf(stderr, "dsa_trace: the audits of %llu runs find no errors%s", a->runs, but);
+        if (!o->audit.is_json && !o->audit.writes_keys)
+            fprintf(stderr, "; that of seed %" PRIu64 ":", a->shown_seed);
+        fputc('\n', stderr);
+        return;
+    }
+    fprintf(stderr, "dsa_trace: the audits of %llu of %llu runs find errors", a->faulty, a->runs);
+    if (a->partial)
+        fprintf(stderr, ", and those of %llu have seen a part", a->partial);
+    const bool is_repeated = !has_failed && !o->report; /* else it is said already how to run one again */
+    fprintf(stderr, "; %s %" PRIu64 ":\n", is_repeated ? "to repeat seed" : "the first is seed", a->seed);
+    if (is_repeated)
+        options_repeat(o, a->seed);
 }
 
 /// What a program that fails may lack although its audits find nothing.
@@ -382,12 +406,12 @@ static bool print(const struct audits *a, bool has_failed)
     if (a->is_unproved && !is_json && !a->options.writes_keys)
         printf("by a dsa_text that was built without proofs (%s):\n", a->dsa_text);
     if (!a->options.writes_keys)
-        append(is_json || a->kept ? a->report : a->last, stdout);
+        append(is_json || a->kept ? a->report : a->shown, stdout);
     fputs(is_json ? "]" : "", stdout);
     const bool is_all = !a->partial && !has_failed && a->empty < a->runs; /* what was not run or seen may use them */
     if (a->options.accept && !a->options.writes_keys && is_all) {
         fputs(is_json ? ",\"stale\":" : "", stdout);
-        has_errors = stale_end(&a->stale, is_json, stdout);
+        has_errors = stale_end(&a->stale, a->seen > 0, is_json, stdout);
     }
     fputs(is_json && a->is_unproved ? ",\"unproved\":true" : "", stdout);
     fputs(is_json ? "}\n" : "", stdout);
@@ -400,7 +424,7 @@ static bool print(const struct audits *a, bool has_failed)
 static void add_stale(const struct audits *a, const struct junit *j)
 {
     FILE *lines = in_memory("the accepted keys");
-    stale_end(&a->stale, false, lines);
+    stale_end(&a->stale, a->seen > 0, false, lines);
     junit_add_stale(j, lines);
     fclose(lines);
 }
@@ -425,7 +449,9 @@ int audits_end(struct audits *a, const struct options *o, const struct junit *j,
     if (has_failed && program != TIMED_OUT && !a->empty && !a->faulty && !a->partial)
         say_what_else(a, o);
     fclose(a->report);
-    fclose(a->last);
+    if (a->last != a->shown)
+        fclose(a->last);
+    fclose(a->shown);
     stale_forget(&a->stale);
     keys_forget(&a->accepted);
     keys_forget(&a->keys);

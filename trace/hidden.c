@@ -125,26 +125,20 @@ static bool is_alike(const char *key, const char *other)
     return family_of(other, &of_other) == length && strncmp(family, of_other, length) == 0;
 }
 
-static bool is_wait(const char *key)
-{
-    static const char before[] = "missing wait";
-    return strncmp(key, before, sizeof before - 1) == 0;
-}
-
 /// Whether an accepted error with this line may hide one that has a key, and where that is not accepted: of the same
 /// batch, whose place is that of the line, or a missing wait of the same entry, for one of any place.
 static bool may_hide(const struct search *s, const char *line, const char *key)
 {
     char *placed;
     const size_t length = key_length(line);
-    if (is_wait(line) != is_wait(key) || !is_alike(line, key) ||
+    if (key_is_of_wait(line) != key_is_of_wait(key) || !is_alike(line, key) ||
         (strlen(key) == length && strncmp(line, key, length) == 0))
         return false;
     if (asprintf(&placed, "%s%s", key, place_of(line)) < 0)
         fail("the keys of the audit");
     const bool is_accepted = keys_has(&s->all->accepted, placed);
     free(placed);
-    return is_wait(key) || !is_accepted;
+    return key_is_of_wait(key) || !is_accepted;
 }
 
 /// How many of the first keys are alike with one.

@@ -13,6 +13,13 @@ static size_t find(const struct keys *k, const char *key)
     return at;
 }
 
+/// Whether a key is one of a missing wait.
+bool key_is_of_wait(const char *key)
+{
+    static const char before[] = "missing wait";
+    return strncmp(key, before, sizeof before - 1) == 0;
+}
+
 /// Whether the set has the key.
 bool keys_has(const struct keys *k, const char *key) { return find(k, key) < k->count; }
 

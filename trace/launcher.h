@@ -16,7 +16,7 @@ enum { MOST_QUEUES = 8, LONGEST_KEY = 4096 };
 /* What an audit takes of the options of dsa_text, NULL if they are not given. `is_there`: one of them is given. */
 struct audit_options {
     const char *accept, *deny, *await;
-    const char *greatest_batch, *lone, *batch, *batches, *fence; /* for what it says of costs */
+    const char *greatest_batch, *greatest_transfer, *lone, *batch, *batches, *fence; /* for what it says of costs */
     FILE *accepted; /* what is read in place of the file `accept`, or NULL */
     bool is_resident, is_json, writes_keys, is_there;
 };
@@ -101,6 +101,7 @@ bool seen_mark(const char *records, const char *recording, const char *why);
 
 /* ---- keys.c: what findings of one kind have in common ---- */
 struct keys { char **all; size_t count, room; };
+bool key_is_of_wait(const char *key);
 bool keys_has(const struct keys *k, const char *key);
 /* The place of a key, which is added if it is not there. */
 size_t keys_place(struct keys *k, const char *key);
@@ -134,8 +135,9 @@ FILE *stale_take(struct stale *s, const char *passed, const struct keys *places,
 void stale_fitting(const struct stale *s, const struct keys *places, struct keys *to);
 FILE *stale_cut(FILE *report);
 void stale_use(struct stale *s, const char *key);
-/* Writes the lines that no recording has used, and answers whether they are errors. */
-bool stale_end(const struct stale *s, bool is_json, FILE *to);
+/* Writes the lines that no recording has used, and answers whether they are errors. Those of missing waits are left out
+ * if none was looked for. */
+bool stale_end(const struct stale *s, bool seeks_waits, bool is_json, FILE *to);
 void stale_forget(struct stale *s);
 
 /* ---- findings.c: findings of our own, beside those of dsa_text ---- */
@@ -184,8 +186,9 @@ void gather_end(struct gathered *g);
 bool errors_noted(const char *records, const char *base, struct gathered *g, struct findings *to);
 
 /* ---- looks.c: whether it was seen when the program looked at records ---- */
-/* A report in words, which is closed, with what is missed if that was not seen in place of dsa_text's line. */
-FILE *looks_explain(FILE *report, const struct gathered *g);
+/* A report in words, which is closed, with what is missed if that was not seen in place of dsa_text's line; *is_unseen
+ * is set then. */
+FILE *looks_explain(FILE *report, const struct gathered *g, bool *is_unseen);
 
 /* ---- unproved.c: a dsa_text that is built without proofs ---- */
 /* Builds it in the clone whose trace/out this folder is, if there is one, and the toolchain; NULL if not. */
@@ -212,11 +215,15 @@ struct audits {
     struct symbols symbols;
     bool shows_places, keeps; /* the recordings of runs are kept */
     unsigned long long runs, faulty, partial, empty, kept;
-    unsigned long long processes, at_once; /* those that submit, and of them those whose submissions are done at once */
-    uint64_t seed;
+    /* Those that submit; of them those whose submissions are done at once, and those of which it was seen when they
+     * looked at records. */
+    unsigned long long processes, at_once, seen;
+    uint64_t seed, shown_seed;
     int status;
     bool has_keyless; /* a report is kept whose errors have no keys, as what --deny names */
     FILE *report, *last;
+    FILE *shown; /* what is shown if no run has errors: the last that looked for missing waits, else the last */
+    bool shows_waits;
 };
 /* False, after a sentence, if dsa_text is not there or does not take the options. */
 bool audits_begin(struct audits *a, const struct options *o);

@@ -16,15 +16,18 @@ static const char unseen[] =
     "found only if the later submission came before that end; what helps is to run it with --audit or --watch, without "
     "--no-watch, where there are watchpoints, or with --delay 20000, so that ends come late\n";
 
-FILE *looks_explain(FILE *report, const struct gathered *g)
+FILE *looks_explain(FILE *report, const struct gathered *g, bool *is_unseen)
 {
     char *line = NULL;
     size_t room = 0;
     const char *const instead = g->is_at_once ? at_once : g->submissions ? unseen : "";
     FILE *to = in_memory("the answer of dsa_text");
     rewind(report);
-    while (getline(&line, &room, report) >= 0)
-        fputs(strncmp(line, sentence, sizeof sentence - 1) ? line : instead, to);
+    while (getline(&line, &room, report) >= 0) {
+        const bool is_sentence = strncmp(line, sentence, sizeof sentence - 1) == 0;
+        *is_unseen |= is_sentence;
+        fputs(is_sentence ? instead : line, to);
+    }
     free(line);
     if (ferror(report) || ferror(to))
         fail("the answer of dsa_text");

@@ -16,7 +16,7 @@ static const char help[] =
     "      --audit          at the end, what the recordings lack: fences and waits, and what else is wrong; status 1\n"
     "                       if any run has errors or submits nothing, 125 if the audit has seen a part of it\n"
     "      --accept <FILE>  of an audit: errors of the kinds that this file has, a line each, are known and no errors\n"
-    "      --write-accept   of an audit: write the kinds of the errors of all runs, for --accept; status 0\n"
+    "      --write-accept   of an audit: write the kinds of the errors of all runs, for --accept; these are status 0\n"
     "      --deny <KIND,..> of an audit: findings that are errors too: needless, guarding, signalling, unseen, and\n"
     "                       stale, lines of --accept that fit nothing\n"
     "      --await <WHAT>   of an audit: what the program looks at: writes, signals or batches [default: writes]\n"
@@ -27,6 +27,8 @@ static const char help[] =
     "      --fence <N>      that of a fence in a batch [default: 3]\n"
     "      --greatest-batch <N>\n"
     "                       the most members of a batch that has a price [default: 32]\n"
+    "      --greatest-transfer <N>\n"
+    "                       taken too, so that what dsa_prices --options prints can be given here\n"
     "      --json           of an audit: write the reports of all runs as JSON; with this and --write-accept what the\n"
     "                       program prints goes to standard error\n"
     "      --report <DIR>   run no program: audit the runs that --out DIR has kept\n"
@@ -127,7 +129,7 @@ static const char **text_at(struct options *o, const char *name, bool *is_of_aud
         {"--deny", &a->deny, true},    {"--await", &a->await, true},
         {"--lone", &a->lone, true},    {"--greatest-batch", &a->greatest_batch, true},
         {"--batch", &a->batch, true},  {"--batches", &a->batches, true},
-        {"--fence", &a->fence, true},
+        {"--fence", &a->fence, true},  {"--greatest-transfer", &a->greatest_transfer, true},
     };
     for (size_t i = 0; i < sizeof texts / sizeof *texts; i++)
         if (strcmp(name, texts[i].name) == 0) {
@@ -183,6 +185,8 @@ static void take_value(struct options *o, const char *name, const char *value)
         refuse("a value comes after this option", name);
     o->has_pace |= strcmp(name, "--delay") == 0 || strcmp(name, "--watch") == 0;
     o->audit.is_there |= is_of_audit;
+    if (text && *text)
+        refuse("this option is given twice", name);
     if (number)
         *number = number_of(name, value);
     else if (text)
@@ -207,8 +211,11 @@ void options_read(char **words, struct options *o)
             print_and_end(help);
         if (strcmp(name, "--version") == 0 || strcmp(name, "-V") == 0)
             print_and_end("dsa_trace " VERSION "\n");
-        if (take_flag(o, name))
+        if (take_flag(o, name)) {
+            if (equals)
+                refuse("this option takes no value", name);
             continue;
+        }
         const char *value = equals ? equals + 1 : word[1];
         take_value(o, name, value);
         word += !equals;

@@ -361,7 +361,8 @@ void order_finish(void)
     for (struct submission *s = order.head; s; s = s->next)
         left++;
     if (left)
-        say("%u submissions are in flight at the end of the process: nobody has waited for their records", left);
+        say("%u %s in flight at the end of the process: nobody has waited for %s", left,
+            left == 1 ? "submission is" : "submissions are", left == 1 ? "its record" : "their records");
     while (order.head && pthread_cond_timedwait(&order.idle, &order.lock, &until) != ETIMEDOUT)
         ;
     if (settings.verbose)

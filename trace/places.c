@@ -43,8 +43,10 @@ static void add_mapped(struct places *p, const char *line)
         return;
     m.is_code = rights[2] == 'x';
     m.path = strdup(line + at);
-    if (m.path && is_newer(m.path, p->recorded))
+    if (m.path && is_newer(m.path, p->recorded)) {
         m.inode = 0; /* a file that was built anew may have the number of the one that ran */
+        p->changed = m.is_code ? m.path : p->changed;
+    }
     p->mapped = grown(p->mapped, p->mapped_count, sizeof m);
     p->mapped[p->mapped_count++] = m;
 }
@@ -173,6 +175,17 @@ static void read_lines(struct places *p, const char *records, const char *base, 
         fclose(from);
 }
 
+/// Says that a file of code has changed, if no earlier audit has kept what the stacks were.
+static void say_changed(const struct places *p)
+{
+    for (size_t i = 0; i < p->stack_count; i++)
+        if (p->stacks[i].text)
+            return;
+    if (p->changed)
+        fprintf(stderr, "dsa_trace: %s has changed since it was recorded, so places in it are addresses, and keys with "
+                "places fit nothing; --audit with --out keeps the places\n", p->changed);
+}
+
 void places_read(struct places *p, const char *records, const char *base, struct symbols *symbols)
 {
     *p = (struct places){.symbols = symbols};
@@ -181,6 +194,7 @@ void places_read(struct places *p, const char *records, const char *base, struct
         return;
     read_lines(p, records, base, "events");
     read_lines(p, records, base, "places");
+    say_changed(p);
 }
 
 void places_forget(struct places *p)

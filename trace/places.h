@@ -24,7 +24,8 @@ struct thread { int number; uint64_t low, high; char name[20]; };
 /* What an address of data is. */
 struct datum { uint64_t at; char *text; };
 
-/* Of one recording with all its parts, whose last stack was written at the time `recorded`. */
+/* Of one recording with all its parts, whose last stack was written at the time `recorded`. `changed` is a file of code
+ * that has changed since, or NULL. */
 struct places {
     struct symbols *symbols;
     struct mapped *mapped;
@@ -33,6 +34,7 @@ struct places {
     struct thread *threads;
     struct datum *data;
     struct timespec recorded;
+    const char *changed;
     size_t mapped_count, stack_count, origin_count, thread_count, datum_count;
 };
 

@@ -82,6 +82,18 @@ FILE *stale_at(const struct stale *s, const struct keys *places, const struct ke
     return file;
 }
 
+/// Takes off what a line has after its words, as what another system ends lines with, and a byte order mark.
+static void trim(char *line)
+{
+    static const char mark[] = "\xef\xbb\xbf";
+    size_t length = strlen(line);
+    while (length && strchr(" \t\r\n", line[length - 1]))
+        length--;
+    line[length] = 0;
+    if (strncmp(line, mark, sizeof mark - 1) == 0)
+        memmove(line, line + sizeof mark - 1, length - (sizeof mark - 1) + 1);
+}
+
 /// Takes the lines of the file, as keys too.
 void stale_read(struct stale *s, struct keys *accepted)
 {
@@ -91,8 +103,8 @@ void stale_read(struct stale *s, struct keys *accepted)
     if (!s->file)
         return;
     FILE *from = opened(s->file, "r");
-    for (ssize_t length; (length = getline(&line, &room, from)) >= 0; s->count++) {
-        line[length - (length > 0 && line[length - 1] == '\n')] = 0;
+    for (; getline(&line, &room, from) >= 0; s->count++) {
+        trim(line);
         struct accepted_line *more = realloc(s->lines, sizeof *more * (s->count + 1));
         if (!more || !(more[s->count].text = strdup(line)))
             fail(s->file);
@@ -183,14 +195,15 @@ void stale_use(struct stale *s, const char *key)
         s->lines[i].is_used |= strcmp(s->lines[i].text, key) == 0;
 }
 
-/// Writes the lines that are left: in words, or as an array of JSON. Answers whether they are errors.
-bool stale_end(const struct stale *s, bool is_json, FILE *to)
+/// Writes the lines that are left, those of missing waits only if these were looked for: in words, or as an array of
+/// JSON. Answers whether they are errors.
+bool stale_end(const struct stale *s, bool seeks_waits, bool is_json, FILE *to)
 {
     bool has_some = false;
     fputs(is_json ? "[" : "", to);
     for (size_t i = 0; i < s->count; i++) {
         const struct accepted_line *line = &s->lines[i];
-        if (line->is_used)
+        if (line->is_used || (!seeks_waits && key_is_of_wait(line->text)))
             continue;
         if (is_json) {
             fputs(has_some ? "," : "", to);

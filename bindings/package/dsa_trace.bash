@@ -7,7 +7,7 @@ _dsa_trace()
         case ${COMP_WORDS[at]} in
             --out | --seed | --seeds | --order | --delay | --retry | --fault | --watch | --queue | --stacks) ((at++)) ;;
             --accept | --await | --deny | --junit | --report | --timeout) ((at++)) ;;
-            --batch | --batches | --fence | --greatest-batch | --lone) ((at++)) ;;
+            --batch | --batches | --fence | --greatest-batch | --greatest-transfer | --lone) ((at++)) ;;
             --) ((at++)); break ;;
             -*) ;;
             *) break ;;
@@ -25,13 +25,13 @@ _dsa_trace()
         --await) COMPREPLY=($(compgen -W "writes signals batches" -- "$word")) ;;
         --deny) COMPREPLY=($(compgen -W "needless guarding signalling unseen stale" -- "$word")) ;;
         --seed | --seeds | --delay | --retry | --fault | --timeout | --watch | --stacks) ;;
-        --batch | --batches | --fence | --greatest-batch | --lone) ;;
+        --batch | --batches | --fence | --greatest-batch | --greatest-transfer | --lone) ;;
         *)
             if [[ $word == -* ]]; then
                 COMPREPLY=($(compgen -W "--accept --audit --await --batch --batches --cpuid --delay --deny --fault
-                    --fence --greatest-batch --help --json --junit --lone --no-namespace --no-wait --no-watch --order
-                    --out --queue --report --resident --retry --seed --seeds --signals --stacks --timeout --verbose
-                    --version --watch --write-accept" -- "$word"))
+                    --fence --greatest-batch --greatest-transfer --help --json --junit --lone --no-namespace --no-wait
+                    --no-watch --order --out --queue --report --resident --retry --seed --seeds --signals --stacks
+                    --timeout --verbose --version --watch --write-accept" -- "$word"))
             else
                 COMPREPLY=($(compgen -c -- "$word"))
             fi

@@ -4,6 +4,7 @@ groups as a picture has."""
 import json
 import random
 import re
+import struct
 import subprocess
 import tempfile
 from pathlib import Path
@@ -84,12 +85,17 @@ def barriers(text):
         expect((kept.stdout, kept.stderr) == (ran.stdout, ran.stderr), f"{words}: {kept}")
 
 
+def beside(ran):
+    """What is said beside an answer of `resume` but for the notes on the pieces that have failed."""
+    return re.sub("note: line .*: piece .* has failed .*\n", "", ran.stderr)
+
+
 def resumed(text):
     """What is left of a list by completion records, typed by hand: operations that are split, both orders, records in
     each form and of another length, in a file or on standard input, and a file that is not there; lists with barriers,
     and pieces that are given up."""
-    fill = "fill 0x300000 with 0102030405060708, 64 bytes, record 0x8060\n"
-    lines = "move 0x100000 -> 0x200000, 10000 bytes, record 0x8000\n" + fill
+    last = "compare 0x300000 with 0x400000, 64 bytes, expect 0, record 0x8060\n"
+    lines = "move 0x100000 -> 0x200000, 10000 bytes, record 0x8000\n" + last
     first = "move 0x100000 -> 0x200000, 4096 bytes, record 0x8000\n"
     second = "move 0x101000 -> 0x201000, 4096 bytes, record 0x8020\n"
     third = "move 0x102000 -> 0x202000, 1808 bytes, record 0x8040\n"
@@ -97,7 +103,7 @@ def resumed(text):
     with tempfile.TemporaryDirectory() as folder:
         kinds = {"some": (1, 0, 3, 2), "none": (0, 0, 0, 0), "all": (1, 1, 1, 1), "late": (1, 0, 0, 0x84)}
         for name, statuses in kinds.items():
-            records = b"".join(bytes([status]).ljust(32, b"\xa5") for status in statuses)
+            records = b"".join(bytes([it]).ljust(32, b"\xa5" if it in (1, 2) else b"\0") for it in statuses)
             Path(folder, name).write_bytes(records)
             Path(folder, f"{name}.hex").write_text(records.hex() + "\n")
         Path(folder, "odd").write_bytes(b"\1" * 127)
@@ -106,20 +112,20 @@ def resumed(text):
             ("some", [], second + third),
             ("some.hex", [], second + third),
             ("some.hex", ["--failed-first"], third + second),
-            ("none", [], first + second + third + fill),
-            ("none", ["--failed-first"], first + second + third + fill),
+            ("none", [], first + second + third + last),
+            ("none", ["--failed-first"], first + second + third + last),
             ("all.hex", [], ""),
-            ("late", [], second + third + fill),
-            ("late.hex", ["--failed-first"], fill + second + third),
+            ("late", [], second + third + last),
+            ("late.hex", ["--failed-first"], last + second + third),
         ):
             words = ["resume", *short, *more, "--records", f"{folder}/{name}"]
             ran = subprocess.run([text, *words], input=lines, capture_output=True, text=True)
-            got = (ran.returncode, ran.stdout, ran.stderr)
+            got = (ran.returncode, ran.stdout, beside(ran))
             expect(got == (0, wanted, ""), f"{words}: wanted {wanted!r}, got {got}")
             listed = [text, "resume", *short, *more, "--records", "-", f"{folder}/lines"]
-            ran = subprocess.run(listed, input=Path(folder, name).read_bytes(), capture_output=True)
-            got = (ran.returncode, ran.stdout.decode(), ran.stderr.decode())
-            expect(got == (0, wanted, ""), f"{name} on standard input, {more}: wanted {wanted!r}, got {got}")
+            piped = subprocess.run(listed, input=Path(folder, name).read_bytes(), capture_output=True)
+            got = (piped.returncode, piped.stdout.decode(), piped.stderr.decode())
+            expect(got == (0, wanted, ran.stderr), f"{name} on standard input, {more}: wanted {wanted!r}, got {got}")
         records = "there are not 32 bytes of completion records for each piece [112 Records]"
         sizes = "note: {} pieces have {} bytes of records, and these are {}\n".format
         both = "error: the list and the records can't both come from standard input: name a file for one\n"
@@ -164,10 +170,111 @@ def resumed(text):
             Path(folder, "some").write_bytes(b"".join(bytes([status]).ljust(32, b"\0") for status in statuses))
             words = ["resume", "--greatest-batch", "2", "--records", f"{folder}/some"]
             ran = subprocess.run([text, *words], input=listed, capture_output=True, text=True)
-            got, wanted = (ran.returncode, ran.stderr), (0, early.format(*places) if places else "")
+            got = (ran.returncode, re.sub("warning: .* or in another order\n", "", beside(ran)))
+            wanted = (0, early.format(*places) if places else "")
             expect(got == wanted, f"resume, statuses {statuses}: wanted {wanted}, got {got}")
         sharing(text, folder)
         stopped_at_barriers(text, folder)
+        other_records(text, folder)
+        lacking = sum(forgone(text, folder, random.Random(seed)) for seed in range(200))
+        expect(lacking > 50, f"only {lacking} pieces read what is given up")
+
+
+def forgone(text, folder, draw):
+    """A random list of which some pieces have failed and are given up, judged by brute force: those that are left and
+    read what one that is given up was to write, if no barrier is between, each with the last of these."""
+    places, count = [0x1000 + 32 * n for n in range(12)], draw.randint(2, 9)
+    pieces = [(*draw.sample(places, 2), draw.choice((8, 40, 100))) for _ in range(count)]
+    pieces = [(source, target, min(size, abs(source - target))) for source, target, size in pieces]
+    barrier = draw.randint(1, count - 1) if draw.random() < 0.3 else count
+    statuses = [draw.choice((0, 1, 3, 3)) if n < barrier else 0 for n in range(count)]
+    given = [n for n in range(count) if statuses[n] == 3 and draw.random() < 0.7]
+    move = "move {:#x} -> {:#x}, {} bytes, record {:#x}\n".format
+    lines = [move(*pieces[n], 0x8000 + 32 * n) for n in range(count)]
+    lines.insert(barrier, "barrier\n" if barrier < count else "")
+    wanted = []
+    for n in range(barrier if given else 0):
+        reads = {*range(pieces[n][0], pieces[n][0] + pieces[n][2])}
+        writers = [k for k in given if k < n and reads & {*range(pieces[k][1], pieces[k][1] + pieces[k][2])}]
+        if writers and n not in given and statuses[n] != 1:
+            wanted.append((n, writers[-1]))
+    Path(folder, "some").write_bytes(b"".join(bytes([status]).ljust(32, b"\0") for status in statuses))
+    command = [text, "resume", "--records", f"{folder}/some"]
+    command += ["--give-up", ",".join(map(str, given))] if given else []
+    ran = subprocess.run(command, input="".join(lines), capture_output=True, text=True)
+    found = re.findall(r": piece (\d+) reads what piece (\d+), which is given up, was to write at 0x", ran.stderr)
+    got = [(int(n), int(k)) for n, k in found]
+    expect((ran.returncode, got) == (0, wanted), f"{lines}, {statuses}, given up {given}: {wanted}, not {ran}")
+    return len(wanted)
+
+
+def other_records(text, folder):
+    """Records that can't be those of their pieces, and pieces that read what one that is given up was to write."""
+    lines = "move 0x1000 -> 0x3000, 8192 bytes, record 0x8000\n"
+    lines += "compare 0x6000 with 0x7000, 64 bytes, expect 0, record 0x8020\n"
+    lines += "delta 0x9000, 20 bytes -> 0xa000, 16 bytes, record 0x8040\n"
+    rest = "its record has {}: these may be other records, or in another order".format
+    at = "a page fault at 0x{:x}, in no page that it reads or writes".format
+    for piece, status, done, fault, said in (
+        (0, 3, 0, 0x1000, None), (0, 3, 8192, 0x2fff, None), (0, 0x83, 0, 0x4fff, None), (0, 4, 0, 0x8fff, None),
+        (0, 3, 0, 0, None), (0, 3, 0, 0xfff, at(0xfff)), (0, 0x84, 0, 0x5000, at(0x5000)),
+        (0, 3, 0, 0x7010, at(0x7010)),
+        (0, 3, 8193, 0x1000, "a page fault after 8193 bytes, and it has 8192"),
+        (1, 2, 7, 0, None), (0, 2, 0, 0, "status 2, which only those of compares have"),
+        (0, 0, 0, 0, None), (1, 0, 1, 0, "status 0 and other bytes"),
+        (1, 0x80, 0, 0, "status 0x80, which no record has"),
+        (1, 0x81, 0, 0, "status 0x81, which no record has"), (1, 0x90, 0, 0, None),
+        (1, 0x22, 0, 0, None), (1, 0x23, 0, 0, "status 0x23, which no record has"), (1, 9, 0, 0, None),
+        (1, 0x0a, 0, 0, "status 0x0a, which no record has"), (1, 0xff, 0, 0, "status 0xff, which no record has"),
+        (2, 3, 20, 0x9000, None), (2, 3, 21, 0xa00f, "a page fault after 21 bytes, and it has 20"),
+    ):
+        records = [b"\1".ljust(32, b"\0")] * 3
+        records[piece] = struct.pack("<B3xIQ16x", status, done, fault)
+        Path(folder, "some").write_bytes(b"".join(records))
+        command = [text, "resume", "--records", f"{folder}/some"]
+        ran = subprocess.run(command, input=lines, capture_output=True, text=True)
+        wanted = f"warning: piece {piece}: {rest(said)}\n" if said else ""
+        got = (ran.returncode, beside(ran))
+        expect(got == (0, wanted), f"piece {piece} with {status:#x}, {done}, {fault:#x}: wanted {wanted}, got {got}")
+    move = "move {:#x} -> {:#x}, 64 bytes, record {:#x}\n".format
+    many = "".join(move(n * 128, n * 128 + 64, 0x20000 + n * 32) for n in range(22))
+    Path(folder, "some").write_bytes(b"\2".ljust(32, b"\0") * 22)
+    ran = subprocess.run([text, "resume", "--records", f"{folder}/some"], input=many, capture_output=True, text=True)
+    more = "note: and 2 more records that can't be those of their pieces\n"
+    expect(ran.stderr.count("warning") == 20 and ran.stderr.endswith(more), f"22 wrong records: {ran.stderr}")
+    # which pieces have failed, of which operation, and where
+    split = "# two pieces\n" + move(0x1000, 0x3000, 0x8000).replace("64 bytes", "8192 bytes")
+    split += move(0x6000, 0x7000, 0x8040)
+    records = [struct.pack("<B3xIQ16x", *it) for it in ((1, 0, 0), (0x83, 0, 0x4000), (0x13, 0, 0))]
+    Path(folder, "some").write_bytes(b"".join(records))
+    command = [text, "resume", "--greatest-transfer", "4096", "--records", f"{folder}/some"]
+    ran = subprocess.run(command, input=split, capture_output=True, text=True)
+    wanted = "note: line 2, operation 0: piece 1 (2 of 2) has failed with status 0x83, a page fault by a write "
+    wanted += "at 0x4000\n"
+    wanted += "note: line 3, operation 1: piece 2 has failed with status 0x13\n"
+    expect((ran.returncode, ran.stderr) == (0, wanted), f"pieces that have failed: {ran}")
+    ran = subprocess.run([*command, "--give-up", "1"], input=split, capture_output=True, text=True)
+    wanted = wanted.replace("0x4000\n", "0x4000, and is given up\n")
+    expect((ran.returncode, ran.stderr) == (0, wanted), f"a piece that is given up: {ran}")
+    # the second reads what the first writes, the third what the second does, the fourth overwrites, the last reads all
+    chain = "move 0x1000 -> 0x2000, 64 bytes, record 0x8000\nmove 0x2020 -> 0x3000, 64 bytes, record 0x8020\n"
+    chain += "move 0x3000 -> 0x4000, 64 bytes, record 0x8040\n"
+    chain += "fill 0x2000 with 0102030405060708, 8 bytes, record 0x8060\n"
+    chain += "compare 0x2000 with 0x3000, 64 bytes, expect 0, record 0x8080\n"
+    line = "warning: piece {} reads what piece {}, which is given up, was to write at 0x{:x}\n".format
+    for statuses, given, barrier, said in (
+        ((3, 0, 0, 0, 0), "0", False, line(1, 0, 0x2020) + line(4, 0, 0x2000)),
+        ((3, 0, 0, 0, 0), "0", True, ""),
+        ((3, 3, 0, 0, 0), "0,1", False, line(2, 1, 0x3000) + line(4, 1, 0x3000)),
+        ((1, 3, 0, 0, 3), "1", False, line(2, 1, 0x3000) + line(4, 1, 0x3000)),
+        ((1, 3, 0, 0, 3), "4", False, ""), ((3, 0, 0, 0, 0), None, False, ""),
+    ):
+        listed = chain.replace("\n", "\nbarrier\n", 1) if barrier else chain
+        Path(folder, "some").write_bytes(b"".join(bytes([end]).ljust(32, b"\0") for end in statuses))
+        command = [text, "resume", "--records", f"{folder}/some", *(["--give-up", given] if given else [])]
+        ran = subprocess.run(command, input=listed, capture_output=True, text=True)
+        got = re.sub("note: .*\n|.*of an earlier epoch.*\n", "", beside(ran))
+        expect((ran.returncode, got) == (0, said), f"statuses {statuses}, given up {given}: wanted {said!r}, got {ran}")
 
 
 def stopped_at_barriers(text, folder):
@@ -208,19 +315,19 @@ def stopped_at_barriers(text, folder):
         ran = subprocess.run(
             [text, "resume", *more, "--records", f"{folder}/some"], input=lines, capture_output=True, text=True
         )
-        got = (ran.returncode, ran.stdout, re.sub("warning: piece .*\n", "", ran.stderr))
+        got = (ran.returncode, ran.stdout, re.sub("warning: piece .*\n", "", beside(ran)))
         expect(got == (status, left, said), f"resume {more}, statuses {statuses}: wanted {left!r}, {said!r}, got {got}")
     # a check that has failed
     checked = "compare 0x0 with 0x40, 64 bytes, expect 0, record 0x8000, check\n" + row[1] + "barrier\n" + row[2]
     for statuses, left, said in (
-        ((2, 0, 0), row[1], out(1, "piece", 0, "is a check with another result than expected")),
-        ((2, 1, 0), "", out(1, "piece", 0, "is a check with another result than expected")),
+        ((2, 0, 0), row[1], out(1, "piece", 0, "has status 2, another result than expected")),
+        ((2, 1, 0), "", out(1, "piece", 0, "has status 2, another result than expected")),
         ((1, 0, 0), row[1] + "barrier\n" + row[2], ""),
     ):
         Path(folder, "some").write_bytes(b"".join(bytes([end]).ljust(32, b"\0") for end in statuses))
         command = [text, "resume", "--records", f"{folder}/some"]
         ran = subprocess.run(command, input=checked, capture_output=True, text=True)
-        got = (ran.returncode, ran.stdout, re.sub("warning: piece .*\n", "", ran.stderr))
+        got = (ran.returncode, ran.stdout, re.sub("warning: piece .*\n", "", beside(ran)))
         expect(got == (0, left, said), f"resume of a check, statuses {statuses}: wanted {left!r}, {said!r}, got {got}")
     # a failed move over a part of its own source, and over all of it, which changes nothing
     for source, said in ((0x1030, "warning: piece 0 has failed, and may have overwritten a part of what it reads: "
@@ -229,17 +336,17 @@ def stopped_at_barriers(text, folder):
         Path(folder, "some").write_bytes(b"\x03".ljust(32, b"\0"))
         command = [text, "resume", "--records", f"{folder}/some"]
         ran = subprocess.run(command, input=line, capture_output=True, text=True)
-        got = (ran.returncode, ran.stdout, ran.stderr)
+        got = (ran.returncode, ran.stdout, beside(ran))
         expect(got == (0, line, said), f"resume of a move over its source: wanted {line!r}, {said!r}, got {got}")
     # a fence that was planned as a barrier
     Path(folder, "some").write_bytes(b"\x02".ljust(32, b"\0") + b"\x03".ljust(32, b"\0") + bytes(32))
     fenced = checked.replace("barrier\n", "fence ")
     passed = "note: line 3, operation 2: this fence is passed over; --keep-fences makes it a barrier\n"
-    kept = out(1, "piece", 0, "is a check with another result than expected")
+    kept = out(1, "piece", 0, "has status 2, another result than expected")
     for more, left, said in (([], row[1] + row[2], passed), (["--keep-fences"], row[1], kept)):
         command = [text, "resume", *more, "--records", f"{folder}/some"]
         ran = subprocess.run(command, input=fenced, capture_output=True, text=True)
-        got = (ran.returncode, ran.stdout, re.sub("warning: piece .*\n", "", ran.stderr))
+        got = (ran.returncode, ran.stdout, re.sub("warning: piece .*\n", "", beside(ran)))
         expect(got == (0, left, said), f"resume {more} of a fence: wanted {left!r}, {said!r}, got {got}")
 
 
@@ -269,7 +376,7 @@ def sharing(text, folder):
         command = [text, "resume", "--records", f"{folder}/some"]
         ran = subprocess.run(command, input="".join(lines), capture_output=True, text=True)
         wanted = (1, "", f"error: {words.format(*pair, *pair)}\n{notes}") if pair else (0, lines[2], "")
-        got = (ran.returncode, ran.stdout, ran.stderr)
+        got = (ran.returncode, ran.stdout, beside(ran))
         expect(got == wanted, f"resume of {lines}: wanted {wanted}, got {got}")
     ran = subprocess.run([text, "explain"], input="".join(one_record), capture_output=True, text=True)
     expect((ran.returncode, ran.stderr) == (0, shared_by_all), f"explain of {one_record}: {ran.stderr!r}")

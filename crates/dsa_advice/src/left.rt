@@ -1,9 +1,12 @@
 //! Notes and warnings about a list and the completion records that are to be resumed.
 
+use crate::failed::failed_notes;
+use crate::forgone::forgone_notes;
 use crate::kept::joined;
 use crate::origins::count_of;
 use crate::overwritten::overwritten_notes;
 use crate::rows::warnings_of;
+use crate::unfit::unfit_notes;
 use dsa_calls::{PlanFault, Planned, plan_operations};
 use dsa_descriptor::{Descriptor, DescriptorList, Op};
 use dsa_lines::{TextFault, parse_list};
@@ -107,10 +110,19 @@ fn planned_notes(
     alloc: Global,
     planned: &Planned,
     records: &[u8],
+    given_up: &[u8],
 ) -> Result<Option<String>, AllocError> {
+    let Planned {
+        pieces,
+        barriers,
+        ..
+    } = planned;
     let (completions, _) = records.as_chunks::<32>();
-    let source = source_note(alloc, &planned.pieces, completions)?;
-    joined(source, early_note(alloc, planned, completions)?)
+    let unfit = unfit_notes(alloc, pieces, completions)?;
+    let source = source_note(alloc, pieces, completions)?;
+    let forgone = forgone_notes(alloc, pieces, barriers, completions, given_up)?;
+    let early = early_note(alloc, planned, completions)?;
+    joined(joined(unfit, source)?, joined(forgone, early)?)
 }
 
 /// The warnings about these records of a list, if it can be planned.
@@ -119,9 +131,10 @@ fn records_notes(
     operations: &DescriptorList,
     settings: &Settings,
     records: &[u8],
+    given_up: &[u8],
 ) -> Result<Option<String>, AllocError> {
     match plan_operations(alloc, operations, settings) {
-        Ok(planned) => planned_notes(alloc, &planned, records),
+        Ok(planned) => planned_notes(alloc, &planned, records, given_up),
         Err(fault) if fault == PlanFault::Memory => Err(AllocError),
         Err(_) => Ok(None),
     }
@@ -145,14 +158,17 @@ fn early_note(
 }
 
 /// The notes and warnings about a list and records: how long the records should be; else which operations meet the
-/// records of others; else that a piece may have overwritten its own source, and that submitting the groups of its plan
-/// in turn does not leave such records. A record that pieces share does not say which of them has begun.
+/// records of others; else which pieces have failed, which records can't be those of their pieces, that a piece may
+/// have overwritten its own source, which pieces read what one that is given up was to write, and that submitting the
+/// groups of its plan in turn does not leave such records. A record that pieces share does not say which of them has
+/// begun.
 pub fn resume_notes(
     alloc: Global,
     text: &[u8],
     keep_fences: bool,
     settings: &Settings,
     records: &[u8],
+    given_up: &[u8],
 ) -> Result<Option<String>, AllocError> {
     let list = match parse_list(alloc, text, keep_fences) {
         Ok(list) => list,
@@ -171,8 +187,13 @@ pub fn resume_notes(
         warnings_of(alloc, operations, settings)?,
         overwritten_notes(alloc, operations, settings)?,
     )?;
-    match shared {
-        Some(notes) => Ok(Some(notes)),
-        None => records_notes(alloc, &list, settings, records),
+    if shared.is_some() {
+        return Ok(shared);
     }
+    let (completions, _) = records.as_chunks::<32>();
+    let failed = failed_notes(alloc, text, operations, settings, completions, given_up)?;
+    joined(
+        failed,
+        records_notes(alloc, &list, settings, records, given_up)?,
+    )
 }

@@ -9,7 +9,9 @@ mod comments;
 mod decimals;
 mod diagnosis;
 mod explaining;
+mod failed;
 mod faulty;
+mod forgone;
 mod form;
 mod jobs;
 mod judged;
@@ -30,6 +32,7 @@ mod rows;
 mod settings;
 mod shown;
 mod syntax;
+mod unfit;
 mod unplanned;
 mod words;
 

@@ -64,7 +64,7 @@ pub(crate) fn resume_command<'a>(alloc: Global) -> Result<Command<'a>, AllocErro
         .long("give-up")
         .value_name("PIECES")
         .action(ArgAction::Set)
-        .help("the pieces that failed and are not done again, as 2,5");
+        .help("the pieces that failed and are not done again, by their numbers in explain, as 2,5");
     Command::new(alloc, "resume")
         .about("Reads lines and completion records, and writes the lines of what is left to submit")
         .after_help(STOPPED)
@@ -155,7 +155,7 @@ fn left_out_note(alloc: Global, rest: &Rest, records: &[u8]) -> Result<Option<St
     let (completions, _) = records.as_chunks::<32>();
     let is_check = completions.get(piece).is_some_and(|record| record[0] == 2);
     let why = if is_check {
-        "is a check with another result than expected"
+        "has status 2, another result than expected"
     } else {
         "is given up"
     };
@@ -224,7 +224,7 @@ fn resume_records(
     };
     let keep = matches.get_flag("keep-fences");
     let answer = resume_text(alloc, text, keep, settings, records, &given_up, order)?;
-    let notes = resume_notes(alloc, text, keep, settings, records)?;
+    let notes = resume_notes(alloc, text, keep, settings, records, &given_up)?;
     if answer.status == 0 {
         return with_notes(answer, joined(passed_over(alloc, text, keep)?, notes)?);
     }

@@ -1,0 +1,119 @@
+//! Warnings about pieces that read what another would have written that is given up.
+
+ghost use Rattle.std.specs.Prelude.{◌≡◌, ℕ, length};
+
+use crate::notes::Notes;
+use arrayvec::ArrayVec;
+use dsa_conflicts::Sweep;
+use dsa_descriptor::{Descriptor, are_addressable};
+use dsa_ranges::{Touched, find_hazard, touched};
+use std::alloc::{AllocError, Global};
+use std::marker::Model;
+
+/// The most pieces that a walk takes.
+const MOST_GIVEN_UP: usize = 65_536;
+
+/// What the pieces write that are given up, since the last barrier.
+#[derive(Drop)]
+struct Forgone {
+    writes: Sweep,
+    pieces: Vec<usize>,
+}
+
+impl Model for Forgone {
+    ghost Value = { ℕ };
+
+    ghost view = { λ f. f.writes.count };
+
+    ghost invariant = { λ f. f.writes.count ≡ length f.pieces.items };
+}
+
+impl Forgone {
+    /// None.
+    fn new(alloc: Global) -> Forgone {
+        Forgone {
+            writes: Sweep::new(alloc),
+            pieces: Vec::new(alloc),
+        }
+    }
+
+    /// Adds a piece that is given up.
+    fn push(self, number: usize, piece: &Descriptor) -> Result<Forgone, AllocError> {
+        let Forgone { writes, mut pieces } = self;
+        let mut data = ArrayVec::new();
+        data.try_extend_from_slice(piece.op.targets(piece.size).as_slice())
+            .unwrap();
+        let spans = Touched {
+            reads: ArrayVec::new(),
+            writes: data,
+        };
+        if pieces.len() >= MOST_GIVEN_UP || !are_addressable(&spans.writes) {
+            return Ok(Forgone { writes, pieces });
+        }
+        let (writes, _) = writes.add_touched(&spans)?;
+        pieces.push(number)?;
+        Ok(Forgone { writes, pieces })
+    }
+
+    /// The last piece that was to write what this one reads.
+    fn last_before(&self, piece: &Descriptor) -> Option<usize> {
+        let spans = Touched {
+            reads: touched(piece).reads,
+            writes: ArrayVec::new(),
+        };
+        if !are_addressable(&spans.reads) {
+            return None;
+        }
+        let place = self.writes.last_against(&spans)?;
+        self.pieces.get(place as usize).copied()
+    }
+}
+
+/// The line of a piece that reads what the earlier one was to write.
+fn line_of(
+    alloc: Global,
+    pieces: &[Descriptor],
+    earlier: usize,
+    later: usize,
+) -> Result<String, AllocError> {
+    let mut line = format!(in alloc; "warning: piece {later} reads what piece {earlier}, ")?;
+    line.push_str("which is given up, was to write")?;
+    if let (Some(first), Some(second)) = (pieces.get(earlier), pieces.get(later)) {
+        if let Some(hazard) = find_hazard(&touched(first), &touched(second)) {
+            line.push_str(&format!(in alloc; " at 0x{:x}", hazard.address)?)?;
+        }
+    }
+    line.push_str("\n")?;
+    Ok(line)
+}
+
+/// A line for each piece that is left and reads what one that is given up was to write, up to 20, and how many more
+/// there are. What is after a barrier is left out then.
+pub(crate) fn forgone_notes(
+    alloc: Global,
+    pieces: &[Descriptor],
+    barriers: &[bool],
+    records: &[[u8; 32]],
+    given_up: &[u8],
+) -> Result<Option<String>, AllocError> {
+    let mut notes = Notes::new(alloc);
+    let mut forgone = Forgone::new(alloc);
+    for (number, (piece, record)) in pieces.iter().zip(records).enumerate() {
+        if barriers.get(number).copied().unwrap_or(false) {
+            forgone = Forgone::new(alloc);
+        }
+        let is_given_up = given_up.get(number).is_some_and(|mark| *mark != 0);
+        match record[0] {
+            1 | 2 => {}
+            3..=255 if is_given_up => forgone = forgone.push(number, piece)?,
+            0 | 3..=255 => {
+                if let Some(earlier) = forgone.last_before(piece) {
+                    if notes.count() {
+                        notes.write(&line_of(alloc, pieces, earlier, number)?)?;
+                    }
+                }
+            }
+        }
+    }
+    notes.into_text(alloc, "pieces that read what is not written")
+}

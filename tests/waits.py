@@ -323,6 +323,13 @@ def judged(seed):
         keys = keys_of(recording, every, uses)
         common.expect(shown == [keys[e][waits[e]] for e in keys], f"seed {seed}: the keys are {shown}, not {keys}")
         judge_keys(recording, events, keys, draw, f"seed {seed}")
+        columns = sum(code != BATCH for code in recording[7::64])
+        if columns <= 24:
+            drawn = [it for title, _, _ in drawn_waits(recording, events)[1] for it in title.split("; ")]
+            empty = lambda e: recording[64 * e + 7] == BATCH and recording[64 * e + 32 : 64 * e + 36] == bytes(4)
+            said = [(waits[e], *told[e]) for e in sorted(waits) if not empty(e)]
+            said = [f"missing wait for entry {a}: {hazard}, at {at}" for a, hazard, at, _ in said]
+            common.expect(drawn == said, f"seed {seed}: {said}, drawn {drawn}")
     return len(waits) > 0
 
 
@@ -353,15 +360,23 @@ def by_hand():
         common.expect(status == wanted and (wait in out) == (status == 1), f"looks {looks!r}: status {status}, {out}")
 
 
-def accepted():
-    """Two moves and a compare that reads what both write: one wait that is accepted does not hide the other."""
+EARLIER_KEY = "missing wait, read after write; lone: compare, 8 bytes; lone: move, 64 bytes"
+LATER_KEY = "missing wait, read after write; lone: compare, 8 bytes; lone: move, 8 bytes"
+
+
+def trio():
+    """Two moves and a compare that reads what both write, and their events."""
     recording = entry(MOVE, first=0x1000, second=0x2000, size=64)
     recording += entry(MOVE, record=0x8020, first=0x3000, second=0x4000, size=8)
     recording += entry(COMPARE, record=0x8040, first=0x2000, second=0x4000, size=8)
-    made = [f"S {k} wq0.0 op {op} members 0\n" for k, op in enumerate((3, 3, 5))]
-    key = "missing wait, read after write; lone: compare, 8 bytes; lone: move, "
-    of_0, of_1 = key + "64 bytes", key + "8 bytes"
-    both, second = "".join(made), made[0] + "C 0 1\n" + made[1] + made[2]
+    return recording, "".join(f"S {k} wq0.0 op {op} members 0\n" for k, op in enumerate((3, 3, 5)))
+
+
+def accepted():
+    """Of two waits that one entry lacks one that is accepted does not hide the other."""
+    (recording, both), (of_0, of_1) = trio(), (EARLIER_KEY, LATER_KEY)
+    made = both.splitlines(keepends=True)
+    second = made[0] + "C 0 1\n" + made[1] + made[2]
     for events, known, wanted in (
         (both, [], [(1, "error")]), (both, [of_1], [(1, "accepted"), (0, "error")]), (both, [of_0], [(1, "error")]),
         (both, [of_0, of_1], [(1, "accepted")]), (second, [of_1], [(1, "accepted")]),
@@ -371,6 +386,72 @@ def accepted():
         got = [(int(e), kind) for kind, e in re.findall(r": (\w+): missing wait, .*? what entry (\d+) ", out)]
         is_error = int(any(kind == "error" for _, kind in wanted))
         common.expect((got, status) == (wanted, is_error), f"{events!r}, accepting {known}: {got}, {status}")
+
+
+def drawn_waits(recording, events, known=None):
+    """The status of a picture, and of each missing wait in it the title, the colour, and the words below it."""
+    status, svg, said = audited(recording, events, "--svg", known=known)
+    common.expect(svg.startswith("<svg") and svg.endswith("</svg>\n") and not said, f"a picture: {svg[-200:]} {said}")
+    found = re.findall(r'<g class="wait"><title>(.*?)</title><line .*?stroke="(.*?)".*?/>(.*)</g>', svg)
+    return status, [(title, colour, re.sub("<.*?>", " ", words).split()) for title, colour, words in found]
+
+
+def pictures():
+    """Missing waits are drawn: of lone moves, accepted ones, of a fenced member, and for the descriptor of a batch."""
+    first = entry(MOVE, record=0x8000, first=0x1000, second=0x2000, size=64)
+    second = entry(MOVE, record=0x8020, first=0x2010, second=0x3000, size=8)
+    made = ["S 0 wq0.0 op 3 members 0\n", "S 1 wq0.0 op 3 members 0\n"]
+    key = "missing wait, read after write; lone: move, 8 bytes; lone: move, 64 bytes"
+    title, words = "missing wait for entry 0: read after write, at 0x2010", ["missing", "wait", "RAW"]
+    for events, known, wanted in (
+        (made[0] + made[1], None, (1, [(title, "#c00", words)])),
+        (made[0] + made[1], [key], (0, [(f"accepted: {title}", "#999", words)])),
+        (made[0] + "C 0 1\n" + made[1], None, (0, [])),
+    ):
+        got = drawn_waits(first + second, events, known)
+        common.expect(got == wanted, f"{events!r}, accepting {known}: {got}, not {wanted}")
+    # a batch whose second member is fenced for the first, and reads what an earlier move writes; its record, which one
+    # more move reads
+    head = struct.pack("<IIQQQI", 0, BATCH << 24 | VALID | REQUESTED, 0x9000, 0x5000, 0, 2) + bytes(28)
+    members = entry(MOVE, record=0x8040, first=0x1000, second=0x4000, size=8)
+    members += entry(COMPARE, VALID | REQUESTED | FENCE, 0x8060, 0x2000, 0x4000, 8)
+    last = entry(MOVE, record=0x8080, first=0x9000, second=0x6000, size=8)
+    events = made[0] + "S 1 wq0.0 op 1 members 2\n" + "S 2 wq0.0 op 3 members 0\n"
+    status, got = drawn_waits(first + head + members + last, events)
+    titles = [f"missing wait for entry {n}: read after write, at {at}" for n, at in ((0, "0x2000"), (1, "0x9000"))]
+    wanted = [(titles[0], "#c00", []), (titles[1], "#c00", words)]
+    common.expect((status, got) == (1, wanted), f"of a batch: {status}, {got}, not {wanted}")
+    svg = audited(first + head + members + last, events, "--svg")[1]
+    fence = re.search(r'<g class="fence">.*?</g>\n?</g>|<g class="fence">.*', svg)[0]
+    said = " ".join(re.sub("<.*?>", " ", fence).split())
+    common.expect("RAW, missing wait RAW" in said, f"below a fence that has a missing wait is {said}")
+    common.expect("dotted: missing wait; 2 missing waits<" in svg, f"no number of missing waits: {svg[-900:]}")
+    # a batch reads its list, which an earlier move writes; its first member, whose wait is accepted, reads other data
+    writer = entry(MOVE, record=0x80a0, first=0x7000, second=0x5000, size=128)
+    recording, made = writer + first + head + members, made[0] + made[1] + "S 2 wq0.0 op 1 members 2\n"
+    at = [f"missing wait for entry {n}: read after write, at {at}" for n, at in ((0, "0x5000"), (1, "0x2000"))]
+    key = "missing wait, read after write; batch of 2; member 1: compare, 8 bytes; lone: move, 64 bytes"
+    status, got = drawn_waits(recording, made, [key])
+    wanted = [(at[0], "#c00", words), (f"accepted: {at[1]}", "#999", [])]
+    common.expect((status, got) == (1, wanted), f"of the list of a batch: {status}, {got}, not {wanted}")
+    # one entry lacks two waits, of which one is accepted: one line, which is an error
+    recording, made = trio()
+    for known, colour in (([], "#c00"), ([LATER_KEY], "#c00"), ([LATER_KEY, EARLIER_KEY], "#999")):
+        status, got = drawn_waits(recording, made, known)
+        right = (status, [it[1] for it in got]) == (int(colour == "#c00"), [colour])
+        titles = got[0][0].split("; ") if got else []
+        common.expect(right and len(titles) == 1 + (len(known) == 1), f"accepting {known}: {status}, {got}")
+    # pairs apart, of which the first is accepted: no error is folded with it
+    pairs, events = b"", ""
+    for k in range(15):
+        second = (0x20000 + k * 0x1000, 0x30000) if k == 0 else (0x90000, 0x20000 + k * 0x1000)
+        pairs += entry(MOVE, record=0x8000 + k * 64, first=0x40000 + k * 0x1000, second=0x20000 + k * 0x1000, size=64)
+        pairs += entry(MOVE, record=0x8020 + k * 64, first=second[0], second=second[1] + k * 0x1000 * (k == 0), size=64)
+        events += f"S {2 * k} wq0.0 op 3 members 0\nS {2 * k + 1} wq0.0 op 3 members 0\n"
+    key = "missing wait, read after write; lone: move, 64 bytes; lone: move, 64 bytes"
+    status, got = drawn_waits(pairs, events, [key])
+    colours = [it[1] for it in got]
+    common.expect(status == 1 and "#c00" in colours, f"of 14 errors beside an accepted one: {status}, {got}")
 
 
 def drains():
@@ -470,7 +551,7 @@ def main(words):
     TEXT = [program("dsa_text")]
     numbers = [int(word) for word in words if word.isdigit()]
     COUNT = numbers[-1] if numbers else COUNT
-    parts = [by_hand, accepted, drains, touched, many, in_flight, refusals, brute_force]
+    parts = [by_hand, accepted, pictures, drains, touched, many, in_flight, refusals, brute_force]
     for part in named(parts, [it for it in words if not it.isdigit()]):
         part()
 

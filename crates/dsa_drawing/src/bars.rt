@@ -27,7 +27,29 @@ fn class_of(kind: BarKind) -> &'static str {
         BarKind::Needless => "needless",
         BarKind::Kept => "kept",
         BarKind::NoEffect { .. } => "no-effect",
+        BarKind::MissingWait { .. } => "wait",
     }
+}
+
+/// How far a missing wait is from a fence before the same column.
+const BESIDE: usize = 6;
+
+/// Writes a missing wait as a dotted line before a column that begins there, which may have a fence too.
+fn push_wait(
+    alloc: Global,
+    svg: &mut String,
+    places: &Places,
+    is_error: bool,
+    left: usize,
+) -> Result<(), AllocError> {
+    let x = left.saturating_sub(BESIDE);
+    let foot = places.bottom.saturating_add(4);
+    let paint = if is_error {
+        "stroke=\"#c00\" stroke-width=\"3\" stroke-dasharray=\"2 3\""
+    } else {
+        "stroke=\"#999\" stroke-width=\"3\" stroke-dasharray=\"2 3\""
+    };
+    push_line(alloc, svg, place(x, places.names), place(x, foot), paint)
 }
 
 /// Writes the bar of a fence before a column that begins there.
@@ -56,6 +78,7 @@ fn push_shape(
             let paint = "stroke=\"#c00\" stroke-width=\"4\" stroke-dasharray=\"6 4\"";
             push_line(alloc, svg, place(left, top), place(left, foot), paint)
         }
+        BarKind::MissingWait { is_error } => push_wait(alloc, svg, places, is_error, left),
     }
 }
 

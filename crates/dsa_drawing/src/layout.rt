@@ -56,9 +56,14 @@ pub enum BarKind {
         /// Whether that is an error.
         is_error: bool,
     },
+    /// It is none: the operation is submitted before an earlier one, of another group, is known to have ended.
+    MissingWait {
+        /// Whether that is an error.
+        is_error: bool,
+    },
 }
 
-/// Two operations that a fence separates, and an address at which they conflict.
+/// Two operations that a fence or a wait separates, and an address at which they conflict.
 #[derive(Clone, Copy)]
 pub struct Separated {
     /// The column of the earlier.
@@ -69,7 +74,7 @@ pub struct Separated {
     pub address: u64,
 }
 
-/// A fence, or the place of one that is missing.
+/// A fence, or the place of one or of a wait that is missing.
 #[derive(Drop)]
 pub struct Bar {
     /// The column that it is before.
@@ -113,7 +118,7 @@ pub struct Layout<'a> {
     pub columns: Vec<Column>,
     /// The operations that are split into several columns.
     pub splits: Vec<Split>,
-    /// The fences, in order.
+    /// The fences, and the missing waits, by their columns.
     pub bars: Vec<Bar>,
     /// The names of buffers.
     pub buffers: &'a [Buffer],
@@ -122,11 +127,23 @@ pub struct Layout<'a> {
 }
 
 impl Bar {
+    /// Whether it is a missing wait that is no error.
+    pub(crate) fn is_accepted_wait(&self) -> bool {
+        match self.kind {
+            BarKind::MissingWait { is_error } => !is_error,
+            BarKind::Needed
+            | BarKind::Missing
+            | BarKind::Needless
+            | BarKind::Kept
+            | BarKind::NoEffect { .. } => false,
+        }
+    }
+
     /// Whether the fence is there.
     pub(crate) fn is_set(&self) -> bool {
         match self.kind {
             BarKind::Needed | BarKind::Needless | BarKind::Kept | BarKind::NoEffect { .. } => true,
-            BarKind::Missing => false,
+            BarKind::Missing | BarKind::MissingWait { .. } => false,
         }
     }
 }

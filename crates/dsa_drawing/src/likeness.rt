@@ -12,7 +12,12 @@ pub(crate) fn push_bar(
     start: usize,
 ) -> Result<(), AllocError> {
     let (column, words) = (bar.column.saturating_sub(start), &bar.words);
-    text.push_str(&format!(in alloc; "; {column} {words}")?)?;
+    let state = if bar.is_accepted_wait() {
+        "accepted "
+    } else {
+        ""
+    };
+    text.push_str(&format!(in alloc; "; {column} {state}{words}")?)?;
     match bar.separated {
         Some(separated) => {
             let (earlier, later) = (separated.earlier, separated.later);

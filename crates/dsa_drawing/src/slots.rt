@@ -114,10 +114,10 @@ fn unsplit_or(alloc: Global, layout: &Layout<'_>, kept: &[bool]) -> Result<Vec<b
     Ok(unsplit)
 }
 
-/// The operations that a fence or its conflict is about.
+/// The operations that a fence or a wait, or the conflict of one, is about; but not those of a wait that is no error.
 fn kept_of(alloc: Global, layout: &Layout<'_>) -> Result<Vec<bool>, AllocError> {
     let mut kept = vec![in alloc; false; layout.columns.len()]?;
-    for bar in &layout.bars {
+    for bar in layout.bars.iter().filter(|bar| !bar.is_accepted_wait()) {
         keep(&mut kept, bar.column);
         if let Some(separated) = &bar.separated {
             keep(&mut kept, separated.earlier);

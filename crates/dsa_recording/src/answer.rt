@@ -27,6 +27,7 @@ use crate::listing::listing_text;
 use crate::picture::{draw_report, is_too_large, too_large_text};
 use crate::report::{Report, audit_recording};
 use crate::stream::StreamFault;
+use crate::unwaited::MissingWait;
 use crate::uses::used_in;
 use crate::words::{Denied, Severity, severity_of, severity_with};
 use crate::written::Written;
@@ -61,6 +62,8 @@ pub struct AuditOptions<'a> {
     pub accepted: &'a Accepted,
     /// What is assumed of the software.
     pub assumptions: Assumptions,
+    /// The missing waits that a picture shows, in the order of the entries that lack them.
+    pub waits: &'a [MissingWait],
 }
 
 /// What an audit answers.

@@ -18,6 +18,7 @@ use crate::report::Report;
 use crate::report_json::unseen_name;
 use crate::submission::Audited;
 use crate::totals::{totals_of, totals_text};
+use crate::unwaited::{MissingWait, push_waits, waits_note};
 use crate::words::{Severity, unseen_text};
 use dsa_audit::{Member, all_lasts};
 use dsa_descriptor::op_at;
@@ -210,7 +211,7 @@ fn push_bars(alloc: Global, bars: &mut Vec<Bar>, drawn: Drawn<'_>) -> Result<(),
     Ok(())
 }
 
-/// The fences of all submissions, and the places of those that are missing.
+/// The fences of all submissions, and the places of those and of waits that are missing, by their columns.
 fn drawn_bars(
     alloc: Global,
     all: &[[u8; 64]],
@@ -231,23 +232,28 @@ fn drawn_bars(
         push_bars(alloc, &mut bars, drawn)?;
         start = start.saturating_add(audited.members.len());
     }
+    push_waits(alloc, &mut bars, report, all.len(), options.waits)?;
     Ok(bars)
 }
 
 /// The lines at the end: the numbers, and what the parts of the picture mean.
-fn notes_of(alloc: Global, totals: &str) -> Result<Vec<String>, AllocError> {
+fn notes_of(alloc: Global, totals: &str, waits: &[MissingWait]) -> Result<Vec<String>, AllocError> {
     let mut notes = Vec::new(alloc);
     for line in totals.lines() {
         notes.push(String::from_str(alloc, line)?)?;
     }
     notes.push(String::from_str(alloc, LEGEND)?)?;
     notes.push(String::from_str(alloc, BARS)?)?;
+    if let Some(note) = waits_note(alloc, waits)? {
+        notes.push(note)?;
+    }
     Ok(notes)
 }
 
 /// The picture of a report as SVG, without scripts: the members of submissions in columns, buffers in rows, fences as
 /// bars, red and dashed if they are missing, hollow if they are needless or have no effect (red if that is an error),
-/// and grey if no conflict needs them; a member that is not looked at is hatched. The numbers are at the end.
+/// and grey if no conflict needs them; missing waits are dotted; a member that is not looked at is hatched. The numbers
+/// are at the end.
 pub(crate) fn draw_report(
     alloc: Global,
     all: &[[u8; 64]],
@@ -268,7 +274,7 @@ pub(crate) fn draw_report(
         splits: Vec::new(alloc),
         bars,
         buffers: no_names,
-        notes: notes_of(alloc, &totals)?,
+        notes: notes_of(alloc, &totals, options.waits)?,
         title: totals,
     };
     dsa_drawing::draw(alloc, &layout)

@@ -92,10 +92,10 @@ IsFormat m format =
     (json svg list keys : Bool) × IsFlag m (codes "json") json × IsFlag m (codes "svg") svg × IsFlag m (codes "list") list
     × IsFlag m (codes "write-accept") keys × (format ≡ format_of json svg list keys)
 
--- each word is the value of the option of its name; an audit has no option of transfers and of the staging area
+-- each word is the value of the option of its name; an audit has no option of the staging area
 pub record AreAuditWords (m : ArgMatches) (w : SettingsWords) : Type 0 where
   pub greatest_batch : w.greatest_batch.now ≡ word_of m (codes "greatest-batch")
-  pub greatest_transfer : w.greatest_transfer.now ≡ codes "8"
+  pub greatest_transfer : w.greatest_transfer.now ≡ word_of m (codes "greatest-transfer")
   pub lone : w.lone.now ≡ word_of m (codes "lone")
   pub batch : w.batch.now ≡ word_of m (codes "batch")
   pub batches : option_map (λ word. word.now) w.batches ≡ first_value (found_of m) (codes "batches")

@@ -9,7 +9,7 @@ use crate::stale::with_stale;
 use crate::traced::audit_traced;
 use clap::ArgMatches;
 use dsa_recording::{Accepted, AuditAnswer};
-use std::alloc::AllocError;
+use std::alloc::{AllocError, Global};
 use std::process::ExitCode;
 
 /// The file of events that the options name, and its text, or the status if it has none.
@@ -26,6 +26,16 @@ fn events_in<'a>(
     }
 }
 
+/// The lines of a text without a byte order mark, and without blanks and carriage returns at their ends.
+fn tidied(alloc: Global, text: &str) -> Result<String, AllocError> {
+    let mut tidied = String::new(alloc);
+    for line in text.strip_prefix('\u{feff}').unwrap_or(text).lines() {
+        tidied.push_str(line.trim_end())?;
+        tidied.push_str("\n")?;
+    }
+    Ok(tidied)
+}
+
 /// The errors that the options name as known, or the status if their file has none.
 fn accepted_in(
     rt: &HostRuntime,
@@ -36,7 +46,10 @@ fn accepted_in(
     };
     match input(rt, Some(file)) {
         Ok(text) => match str::from_utf8(&text) {
-            Ok(lines) => Ok(Ok(Accepted::read(rt.alloc(), lines)?)),
+            Ok(lines) => {
+                let lines = tidied(rt.alloc(), lines)?;
+                Ok(Ok(Accepted::read(rt.alloc(), &lines)?))
+            }
             Err(_) => {
                 let reason = NoText::Failed("is no text in UTF-8");
                 Ok(Err(without_audit(rt, Some(file), reason)?))
@@ -59,7 +72,7 @@ fn audit_whole(
     };
     let answer = match events {
         Some((name, events)) => audit_traced(rt.alloc(), matches, given, &text, name, &events)?,
-        None => audit_input(rt.alloc(), matches, given, &text)?,
+        None => audit_input(rt.alloc(), matches, given, &[], &text)?,
     };
     Ok(Ok(answer))
 }

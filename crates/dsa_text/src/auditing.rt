@@ -13,8 +13,8 @@ use dsa_advice::{SettingsWords, message_with, parts_of, settings_fault, settings
 use dsa_calls::PlanFault;
 use dsa_plan::Settings;
 use dsa_recording::{
-    Accepted, Assumptions, AuditAnswer, AuditFormat, AuditOptions, Await, Denied, Dump, ReadFault,
-    audit, audit_read, audit_staged,
+    Accepted, Assumptions, AuditAnswer, AuditFormat, AuditOptions, Await, Denied, Dump,
+    MissingWait, ReadFault, audit, audit_read, audit_staged,
 };
 use std::alloc::{AllocError, Global};
 use std::io::Read;
@@ -135,7 +135,6 @@ fn events<'a>(alloc: Global) -> Result<Arg<'a>, AllocError> {
         .help(
             "report missing waits too, by the events that dsa_trace --out wrote beside the recording",
         )
-        .conflicts_with("svg")?
         .conflicts_with("list")?
         .conflicts_with("staging")
 }
@@ -148,6 +147,12 @@ fn price_options<'a>(alloc: Global) -> Result<Vec<Arg<'a>>, AllocError> {
         "greatest-batch",
         "32",
         "most members of a batch that has a price, 2 to 1024",
+    ))?;
+    options.push(value(
+        alloc,
+        "greatest-transfer",
+        "2097152",
+        "taken as explain takes it; an audit splits nothing",
     ))?;
     options.push(value(alloc, "lone", "10", "price of a lone descriptor"))?;
     options.push(value(alloc, "batch", "14", "price of a batch"))?;
@@ -351,7 +356,7 @@ fn audit_words<'a>(matches: &ArgMatches<'a>) -> SettingsWords<'a>
 {
     SettingsWords {
         greatest_batch: word(matches, "greatest-batch"),
-        greatest_transfer: "8",
+        greatest_transfer: word(matches, "greatest-transfer"),
         lone: word(matches, "lone"),
         batch: word(matches, "batch"),
         batches: matches.get_str("batches"),
@@ -401,6 +406,7 @@ fn options_denying<'a>(
     alloc: Global,
     matches: &ArgMatches<'_>,
     given: Given<'a>,
+    waits: &'a [MissingWait],
     denied: Denied,
     awaited: Await,
 ) -> Result<Result<(Settings, AuditOptions<'a>), AuditAnswer>, AllocError>
@@ -420,6 +426,7 @@ fn options_denying<'a>(
                 denied,
                 accepted: given.accepted,
                 assumptions: Assumptions { awaited, resident },
+                waits,
             };
             Ok(Ok((settings, options)))
         }
@@ -430,11 +437,12 @@ fn options_denying<'a>(
     }
 }
 
-/// The settings and options that arguments spell, or the answer if they spell none.
+/// The settings and options that arguments spell, with missing waits for a picture, or the answer if they spell none.
 pub(crate) fn options_in<'a>(
     alloc: Global,
     matches: &ArgMatches<'_>,
     given: Given<'a>,
+    waits: &'a [MissingWait],
 ) -> Result<Result<(Settings, AuditOptions<'a>), AuditAnswer>, AllocError>
     ensures { IfOk result (λ spelled. MatchResult spelled
         (λ x. Settle matches.now given.entry x.1) (Refuses matches.now given.entry)) }
@@ -445,7 +453,7 @@ pub(crate) fn options_in<'a>(
         return Ok(Err(refusal(alloc, String::from_str(alloc, reason)?)));
     };
     match awaited_in(matches) {
-        Some(awaited) => options_denying(alloc, matches, given, denied, awaited),
+        Some(awaited) => options_denying(alloc, matches, given, waits, denied, awaited),
         None => {
             let reason = "error: --await takes writes, signals or batches\n";
             Ok(Err(refusal(alloc, String::from_str(alloc, reason)?)))
@@ -453,16 +461,17 @@ pub(crate) fn options_in<'a>(
     }
 }
 
-/// What `audit` answers to an input, options, and the files that they name.
+/// What `audit` answers to an input, options, and the files that they name; a picture shows these missing waits.
 pub(crate) fn audit_input(
     alloc: Global,
     matches: &ArgMatches<'_>,
     given: Given<'_>,
+    waits: &[MissingWait],
     input: &[u8],
 ) -> Result<AuditAnswer, AllocError>
     ensures { IfOk result (AuditsInput matches.now given.entry input.now) }
 {
-    match options_in(alloc, matches, given)? {
+    match options_in(alloc, matches, given, waits)? {
         Ok((settings, options)) => audit_with(alloc, given.dumps, input, &settings, options),
         Err(refused) => Ok(refused),
     }
@@ -478,7 +487,7 @@ pub(crate) fn audit_reader<R: Read>(
     ensures { given.entry.dumps.now ≡ [] → AuditsReader matches.now given.entry
         (R.remaining reader.old) (R.remaining reader.new) result }
 {
-    match options_in(alloc, matches, given)? {
+    match options_in(alloc, matches, given, &[])? {
         Ok((settings, options)) => audit_read(alloc, reader, &settings, options),
         Err(refused) => Ok(refused),
     }

@@ -323,7 +323,7 @@ pub(crate) fn audit_files(
         (AuditsFiles matches.now given.entry.accepted.now (AuditsInput matches.now given.entry)
         (length names.now)) }
 {
-    match options_in(rt.alloc(), matches, given)? {
+    match options_in(rt.alloc(), matches, given, &[])? {
         Ok((settings, options)) => audit_named(rt, matches, &settings, options, names),
         Err(refused) => {
             say(rt, &refused.text);

@@ -37,6 +37,7 @@ fn list_recording(
         denied,
         accepted: &accepted,
         assumptions,
+        waits: &[],
     };
     audit_entries(alloc, bytes, settings, options)
 }

@@ -7,7 +7,7 @@ use crate::auditing::{Given, audit_input, format_in};
 use clap::ArgMatches;
 use dsa_forms::{BytesFault, bytes_of_input, is_text};
 use dsa_recording::{Accepted, AuditAnswer, AuditFormat};
-use dsa_waits::answer_waits;
+use dsa_waits::{WaitsAnswer, answer_waits};
 use std::alloc::{AllocError, Global};
 
 /// The missing waits of a recording, as bytes or as a text of digits.
@@ -17,8 +17,9 @@ fn waits_of(
     events: &[u8],
     format: AuditFormat,
     accepted: &Accepted,
-) -> Result<AuditAnswer, AllocError>
-    ensures { IfOk result (AnswersEvents format accepted.now input.now events.now) }
+) -> Result<WaitsAnswer, AllocError>
+    ensures { IfOk result
+        (λ a. AnswersEvents format accepted.now input.now events.now a.report) }
 {
     if !is_text(input) {
         return answer_waits(alloc, input, events, format, accepted);
@@ -29,10 +30,14 @@ fn waits_of(
         Err(BytesFault::Digit { .. }) => {
             let reason = "error: with these the recording has to be bytes, or a text of digits\n";
             let text = String::from_str(alloc, reason)?;
-            Ok(AuditAnswer {
+            let report = AuditAnswer {
                 text,
                 status: 2,
                 used: Accepted::none(alloc),
+            };
+            Ok(WaitsAnswer {
+                report,
+                drawn: Vec::new(alloc),
             })
         }
     }
@@ -49,7 +54,7 @@ pub(crate) fn with_member(
     format!(in alloc; "{object},\"{name}\":{value}}}\n")
 }
 
-/// A report with its missing waits: in JSON as a last member of its object, else after it.
+/// A report with its missing waits: in JSON as a last member of its object, else after it. A picture shows them.
 fn with_waits(
     alloc: Global,
     format: AuditFormat,
@@ -103,11 +108,11 @@ pub(crate) fn audit_traced(
 ) -> Result<AuditAnswer, AllocError>
     ensures { IfOk result (AuditsEvents matches.now given.entry input.now events.now) }
 {
-    let report = audit_input(alloc, matches, given, input)?;
+    let format = format_in(matches);
+    let waits = waits_of(alloc, input, events, format, given.accepted)?;
+    let report = audit_input(alloc, matches, given, &waits.drawn, input)?;
     if report.status == 2 {
         return Ok(report);
     }
-    let format = format_in(matches);
-    let waits = waits_of(alloc, input, events, format, given.accepted)?;
-    joined(alloc, format, report, waits, file)
+    joined(alloc, format, report, waits.report, file)
 }

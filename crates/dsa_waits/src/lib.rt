@@ -15,7 +15,7 @@ mod report;
 mod search;
 mod words;
 
-pub use answer::answer_waits;
+pub use answer::{WaitsAnswer, answer_waits};
 pub use course::{Course, Entry, Made};
 pub use event::{Event, Queue};
 pub use fitting::{Found, Misfit, WaitsFault, find_waits};

@@ -81,7 +81,7 @@ pub(crate) fn some_known(events: &[Event]) -> bool {
 
 /// What a report without looks at records rests on.
 const ALL_KNOWN: &str =
-    "no event says when the program looked at a record (W, K): it is taken to know of an end at once\n";
+    "no event says when the program looked at a record (W, K): what has ended counts as waited for\n";
 
 /// An s, but for one.
 fn plural(count: usize) -> &'static str {

@@ -14,6 +14,7 @@ returns-in-Some c = record {
         denied = c.args.denied;
         accepted = c.args.given.accepted;
         assumptions = record { awaited = c.args.awaited; resident = c.resident_in-resident.result };
+        waits = c.args.waits;
       })
       c.audit_words-words.ensures given c.format_in-format.ensures c.every_in-every.ensures refl refl refl c.resident_in-resident.ensures h;
 }

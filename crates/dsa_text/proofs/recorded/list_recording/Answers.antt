@@ -1,4 +1,4 @@
-use Rattle.std.proofs.Common.{ℕ, List, Result, IfOk, false, refl}
+use Rattle.std.proofs.Common.{ℕ, List, [], Result, IfOk, false, refl}
 use Rattle.std.proofs.lemmas.Result.{IfOk-weaker}
 use Rattle.dsa_recording.specs.declared.answer.AuditAnswer.{AuditAnswer}
 use Rattle.dsa_recording.specs.declared.answer.AuditOptions.{AuditOptions}
@@ -21,5 +21,6 @@ returns c =
       denied = record { needless = false; guarding = false; signalling = false; unseen = false; nothing = false };
       accepted = record { ref_ptr = c.args.settings.ref_ptr; now = c.none-accepted.result };
       assumptions = record { awaited = Writes; resident = false };
+      waits = record { ref_ptr = c.args.bytes.ref_ptr; now = [] };
     }) c.audit_entries.ensures
     (record { format = refl; accepted = c.none-accepted.ensures; awaited = refl; resident = refl })

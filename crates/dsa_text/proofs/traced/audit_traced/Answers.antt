@@ -8,5 +8,5 @@ returns-then-report-eq2 c = (c.in_ok-report.report, c.in_ok-report.ensures, inl 
 pub returns : goal.returns
 returns c =
     IfOk-weaker c.joined.result _ _
-    (λ a h. (c.in_ok-report.report, c.in_ok-report.ensures, inr (c.format_in-format.result, c.in_ok-waits.waits, c.format_in-format.ensures, c.in_ok-waits.ensures, h)))
+    (λ a h. (c.in_ok-report.report, c.in_ok-report.ensures, inr (c.format_in-format.result, c.in_ok-waits.waits.report, c.format_in-format.ensures, c.in_ok-waits.ensures, h)))
     c.joined.ensures

@@ -260,8 +260,8 @@ def stale_by_hand():
         ):
             known.write_text("\n".join(lines))
             for denied in ("needless", "stale"):
-                words = [program("dsa_text"), "audit", "--deny", denied, "--accept", known, *files]
-                ran = subprocess.run(words, capture_output=True)
+                words = [program("dsa_text"), "audit", "--deny", denied, "--accept", known]
+                ran = subprocess.run([*words, *files], capture_output=True)
                 severity = "error" if denied == "stale" else "note"
                 said = [f"{known}: line {n}: {severity}: this fits nothing: {lines[n - 1]}" for n in wanted]
                 got = [line for line in ran.stdout.decode().splitlines() if "this fits nothing" in line]
@@ -269,11 +269,19 @@ def stale_by_hand():
                 has_pairs = one in files or many in files
                 is_error = denied == "stale" and wanted != [] or has_pairs and not {of_0, of_1} <= {*lines}
                 common.expect(ran.returncode == int(is_error), f"{lines}, {files}, {denied}: {ran.returncode}")
-            ran = subprocess.run([*words, "--json"], capture_output=True)
+            ran = subprocess.run([*words, "--json", *files], capture_output=True)
             got = json.loads(ran.stdout)["stale"]
             common.expect(got == [lines[n - 1] for n in wanted], f"{lines}, {files}: {got}")
-            ran = subprocess.run([*words, "--write-accept"], capture_output=True)
+            ran = subprocess.run([*words, "--write-accept", *files], capture_output=True)
             common.expect((ran.returncode, b"fits nothing" in ran.stdout) == (0, False), f"{lines}: {ran.stdout}")
+        known.write_bytes(f"\ufeff{of_0}\r\n{of_1} \t\r\n".encode())  # as other systems write it
+        ran = subprocess.run([*words, one], capture_output=True)
+        common.expect((ran.returncode, b"fits nothing" in ran.stdout) == (0, False), f"CRLF: {ran.stdout}")
+        known.write_text(f"{of_0} @ copy < main\n")
+        placed = subprocess.run([*words, one], capture_output=True, text=True).stdout.splitlines()[-1]
+        said = "error: a key with a place is for dsa_trace --audit, and this fits nothing here"
+        said = f"{known}: line 1: {said}: {of_0} @ copy < main"
+        common.expect(placed == said, f"of a key with a place is said {placed}")
         missing = subprocess.run([*words, "nowhere.bin"], capture_output=True)
         common.expect((missing.returncode, b"fits nothing" in missing.stdout) == (2, False), f"{missing.stdout}")
 

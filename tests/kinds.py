@@ -37,6 +37,7 @@ EMPTY = "note: the list is empty\n"
 NO_OPERATIONS = "note: this list is empty: the recording has no operations\n"
 FLAGS = "flags 0x0004 and 0x0008 have to be set; 0x0010 (interrupt), 0x0040 and bits 16 to 23 may not; "
 FLAGS += "0x0001 (fence) only in lists with barriers; 0x0080 (check) only in compares"
+HINT = "note: it has a fence (flag 0x0001), which --keep-fences reads as a barrier\n"
 EXPECTED = "expected move, fill, compare, delta or dualcast, found"
 DUMP = "(a dump of bytes, which explain and disassemble read if only blanks are before it)"
 JOB = "(a job, which explain reads if only blanks are before it)"
@@ -126,11 +127,12 @@ def refused(text):
         error = f"error: operation 1: {FLAGS}: {what} [3 FlagBits 1]\n"
         answered(text, "", FIRST.bytes() + wrong, 1, "", bytes_of_list + error)
         ran = subprocess.run([text, "disassemble"], input=FIRST.bytes() + wrong, capture_output=True)
-        expect((ran.returncode, ran.stderr.decode()) == (1, error), f"disassemble of flags {flags:#x}: {ran}")
+        said = error + HINT * (flags & 1)
+        expect((ran.returncode, ran.stderr.decode()) == (1, said), f"disassemble of flags {flags:#x}: {ran}")
     # a fence is a flag of lists with barriers alone
     ran = subprocess.run([text, "disassemble"], input=LIST, capture_output=True)
     error = f"error: operation 1: {FLAGS}: 0x0001 (fence) is set [3 FlagBits 1]\n"
-    expect((ran.returncode, ran.stderr.decode()) == (1, error), f"disassemble of a fence: {ran}")
+    expect((ran.returncode, ran.stderr.decode()) == (1, error + HINT), f"disassemble of a fence: {ran}")
     owners = FIRST.bytes() + b"\5" + SECOND.bytes()[1:]
     error = "error: operation 1: its PASID or privilege is not the first operation's: pasid 5, and not pasid 0"
     answered(text, "", owners, 1, "", f"{bytes_of_list}{error} [12 MixedPasid 1]\n")

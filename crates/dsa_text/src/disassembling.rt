@@ -7,17 +7,54 @@ use crate::options::word;
 use clap::ArgMatches;
 use dsa_advice::{Answer, bytes_or_refusal, limits_of, number_of};
 use dsa_calls::PlanFault;
-use dsa_descriptor::read_descriptor_list;
+use dsa_descriptor::{FieldFault, ListFault, read_descriptor_list};
 use dsa_forms::is_text;
 use dsa_lines::{EmittedFault, text_with_barriers};
 use dsa_plan::Setting;
 use std::alloc::{AllocError, Global};
 
+/// What to do about an entry that is no operation of a list.
+fn hint_of(list: &[u8], at: usize, fault: FieldFault) -> &'static str {
+    let (entries, _) = list.as_chunks::<64>();
+    let Some(entry) = entries.get(at) else {
+        return "";
+    };
+    match fault {
+        FieldFault::FlagBits if entry[4] & 1 == 1 => {
+            "note: it has a fence (flag 0x0001), which --keep-fences reads as a barrier\n"
+        }
+        FieldFault::Opcode if entry[7] == 1 => {
+            "note: it is a batch: --portal and --staging read what is submitted, audit --list a recording\n"
+        }
+        FieldFault::Opcode
+        | FieldFault::FlagBits
+        | FieldFault::Reserved
+        | FieldFault::SizeZero
+        | FieldFault::Wrap
+        | FieldFault::RecordAlign
+        | FieldFault::DualcastBits
+        | FieldFault::Overlap
+        | FieldFault::Delta
+        | FieldFault::Expected
+        | FieldFault::RecordMeetsData => "",
+    }
+}
+
+/// The refusal of a list, and what to do about it.
+fn refused_list(alloc: Global, list: &[u8], fault: ListFault) -> Result<Answer, AllocError> {
+    let mut refusal = Answer::list_fault(alloc, list, fault)?;
+    match fault {
+        ListFault::Field(at, fault) => refusal.text.push_str(hint_of(list, at, fault))?,
+        ListFault::Length | ListFault::MixedPasid(_) | ListFault::Memory => {}
+    }
+    Ok(refusal)
+}
+
 /// The text of a list.
 fn disassemble_list(alloc: Global, list: &[u8]) -> Result<Answer, AllocError> {
     match dsa_lines::disassemble(alloc, list) {
         Ok(text) => Ok(Answer::done(text)),
-        Err(fault) => Answer::list_fault(alloc, list, fault),
+        Err(fault) => refused_list(alloc, list, fault),
     }
 }
 

@@ -68,6 +68,18 @@ pub(crate) fn stale_in<'a>(
     }))
 }
 
+/// What a key of `dsa_trace --audit` has before the place of its error.
+const PLACE: &str = " @ ";
+
+/// What is said of a line that fits nothing.
+fn stale_words(line: &str) -> &'static str {
+    if line.contains(PLACE) {
+        "a key with a place is for dsa_trace --audit, and this fits nothing here"
+    } else {
+        "this fits nothing"
+    }
+}
+
 /// The line of this number, from 1.
 fn line_at(accepted: &Accepted, number: usize) -> &str {
     match accepted.lines.get(number.saturating_sub(1)) {
@@ -98,8 +110,9 @@ impl<'a> Stale<'a> {
         let mut text = String::new(alloc);
         for number in &self.numbers {
             let line = line_at(accepted, *number);
+            let words = stale_words(line);
             text.push_str(&format!(in alloc;
-                "{file}: line {number}: {severity}: this fits nothing: {line}\n"
+                "{file}: line {number}: {severity}: {words}: {line}\n"
             )?)?;
         }
         Ok(text)

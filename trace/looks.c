@@ -13,8 +13,9 @@ static const char at_once[] =
 
 static const char unseen[] =
     "it was not seen when the program looked at its records, so each end counts as known at once: a missing wait is "
-    "found only if the later submission came before that end; what helps is to run it with --audit or --watch, without "
-    "--no-watch, where there are watchpoints, or with --delay 20000, so that ends come late\n";
+    "found only if the later submission came before that end; what helps is to run it with --audit or --watch where "
+    "there are watchpoints, without --no-watch (which only programs need that poll data and not records), or with "
+    "--delay 20000, so that ends come late\n";
 
 FILE *looks_explain(FILE *report, const struct gathered *g, bool *is_unseen)
 {

@@ -16,7 +16,7 @@ static const char help[] =
     "      --audit          at the end, what the recordings lack: fences and waits, and what else is wrong; status 1\n"
     "                       if any run has errors or submits nothing, 125 if the audit has seen a part of it\n"
     "      --accept <FILE>  of an audit: errors of the kinds that this file has, a line each, are known and no errors\n"
-    "      --write-accept   of an audit: write the kinds of the errors of all runs, for --accept; these are status 0\n"
+    "      --write-accept   of an audit: write the kinds of the errors of all runs, for --accept; they leave status 0\n"
     "      --deny <KIND,..> of an audit: findings that are errors too: needless, guarding, signalling, unseen, and\n"
     "                       stale, lines of --accept that fit nothing\n"
     "      --await <WHAT>   of an audit: what the program looks at: writes, signals or batches [default: writes]\n"

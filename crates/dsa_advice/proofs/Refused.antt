@@ -9,5 +9,5 @@ names_last fault front message e = (front, [], e)
 
 -- more may come after it
 pub names_more : (fault : PlanFault) (message more whole : List ℕ) → NamesCause fault message → whole ≡ message ++ more → NamesCause fault whole
-names_more fault message more whole (front, behind, e) w =
-    (front, behind ++ more, w ∙ ap (λ (m : List ℕ). m ++ more) e ∙ simp append_assoc)
+names_more fault message more whole (front, after, e) w =
+    (front, after ++ more, w ∙ ap (λ (m : List ℕ). m ++ more) e ∙ simp append_assoc)

@@ -20,7 +20,7 @@ cause_words fault =
 -- after other words the message names the cause, in brackets
 abbrev pub NamesCause : PlanFault → List ℕ → Type 0
 NamesCause fault message =
-    (front behind : List ℕ) × (message ≡ front ++ (codes " [" ++ (cause_words fault ++ (codes "]\n" ++ behind))))
+    (front after : List ℕ) × (message ≡ front ++ (codes " [" ++ (cause_words fault ++ (codes "]\n" ++ after))))
 
 -- after other words the message names the grammar as the cause
 abbrev pub NamesGrammar : List ℕ → Type 0

@@ -145,9 +145,9 @@ fn comments_of(alloc: Global, text: &[u8], is_drawn: bool) -> Result<Comments, A
     let mut buffers = Vec::new(alloc);
     let mut rest = text;
     'lines: loop {
-        let (line, behind) = rest.split_at(line_len(rest));
+        let (line, after) = rest.split_at(line_len(rest));
         push_comment(alloc, &mut names, &mut buffers, line, is_drawn)?;
-        let [_newline, next @ ..] = behind else {
+        let [_newline, next @ ..] = after else {
             return Ok(Comments { names, buffers });
         };
         rest = next;

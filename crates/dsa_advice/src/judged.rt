@@ -68,9 +68,9 @@ fn missing_lines(alloc: Global, plan: &Plan, pieces: &[Descriptor]) -> Result<St
     let mut rest = pieces;
     for group in plan.groups() {
         let start = pieces.len().saturating_sub(rest.len());
-        let (own, behind) = rest.split_at(rest.len().min(group.fences().len()));
+        let (own, after) = rest.split_at(rest.len().min(group.fences().len()));
         push_missing(alloc, &mut text, group, own, start)?;
-        rest = behind;
+        rest = after;
     }
     Ok(text)
 }

@@ -68,14 +68,14 @@ fn unkept_in(
     let mut rest = fenced;
     let mut first: usize = 0;
     for (operation, d) in operations.iter().enumerate() {
-        let [next, behind @ ..] = rest else {
+        let [next, after @ ..] = rest else {
             break;
         };
         if *next == operation {
             if cuts.get(first).copied() == Some(false) {
                 unkept.push(operation)?;
             }
-            rest = behind;
+            rest = after;
         }
         first = first.saturating_add(count_of(d, settings));
     }

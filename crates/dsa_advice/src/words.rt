@@ -51,12 +51,12 @@ pub(crate) fn word_at(text: &[u8], line: usize, column: usize) -> &[u8] {
 }
 
 /// The column of the word of this name in a line, or of the one after it.
-fn column_of(line: &[u8], name: &[u8], is_behind: bool) -> Option<usize> {
+fn column_of(line: &[u8], name: &[u8], is_after: bool) -> Option<usize> {
     let mut column: usize = 1;
     let mut is_named = false;
     for word in line.split(|byte| is_between(*byte)) {
         if !word.is_empty() {
-            if is_named || (word == name && !is_behind) {
+            if is_named || (word == name && !is_after) {
                 return Some(column);
             }
             is_named = word == name;

@@ -92,11 +92,11 @@ all_held assumed bytes r is =
 -- the submissions and audits of a report are in another, after so many others
 record IsPart (n : ℕ) (k : ℕ) (r other : Reported) : Type 0 where
   pub before : List Submission
-  pub behind : List Submission
+  pub after : List Submission
   pub audited_before : List Audited
-  pub audited_behind : List Audited
-  pub submissions : other.submissions ≡ before ++ (map (moved n) r.submissions ++ behind)
-  pub audits : other.audits ≡ audited_before ++ (r.audits ++ audited_behind)
+  pub audited_after : List Audited
+  pub submissions : other.submissions ≡ before ++ (map (moved n) r.submissions ++ after)
+  pub audits : other.audits ≡ audited_before ++ (r.audits ++ audited_after)
   pub count : length before ≡ k
   pub audited_count : length audited_before ≡ k
 
@@ -108,13 +108,13 @@ in_other n k r other f s ms part is =
     let lt' : f.submission < length r.audits = slice_get_within r.audits f.submission is.audited is.audited_is in
     let one : slice_get other.submissions (k + f.submission) ≡ Some (moved n s) =
     ap (λ (l : List Submission). slice_get l (k + f.submission)) part.submissions
-    ∙ (ap (λ (i : ℕ). slice_get (part.before ++ (map (moved n) r.submissions ++ part.behind)) (i + f.submission)) (sym part.count)
-    ∙ (get_middle part.before (map (moved n) r.submissions) part.behind f.submission lt
+    ∙ (ap (λ (i : ℕ). slice_get (part.before ++ (map (moved n) r.submissions ++ part.after)) (i + f.submission)) (sym part.count)
+    ∙ (get_middle part.before (map (moved n) r.submissions) part.after f.submission lt
     ∙ (slice_get-map (moved n) r.submissions f.submission ∙ ap (option_map (moved n)) is.submission))) in
     let two : slice_get other.audits (k + f.submission) ≡ Some is.audited =
     ap (λ (l : List Audited). slice_get l (k + f.submission)) part.audits
-    ∙ (ap (λ (i : ℕ). slice_get (part.audited_before ++ (r.audits ++ part.audited_behind)) (i + f.submission)) (sym part.audited_count)
-    ∙ (get_middle part.audited_before r.audits part.audited_behind f.submission lt' ∙ is.audited_is)) in
+    ∙ (ap (λ (i : ℕ). slice_get (part.audited_before ++ (r.audits ++ part.audited_after)) (i + f.submission)) (sym part.audited_count)
+    ∙ (get_middle part.audited_before r.audits part.audited_after f.submission lt' ∙ is.audited_is)) in
     record { submission = one; audited = is.audited; audited_is = two; members = is.members }
 
 module _ (options : AuditOptions) (pre es post : List (List ℕ)) (k : ℕ) (r other : Reported) (part : IsPart (length pre) k r other) where
@@ -307,9 +307,9 @@ module _ (options : AuditOptions) (a b : List ℕ) (r q : Reported) (first : IsR
   unfolding whole
   first_part = record {
     before = [];
-    behind = map (moved (length (entries a))) q.submissions;
+    after = map (moved (length (entries a))) q.submissions;
     audited_before = [];
-    audited_behind = q.audits;
+    audited_after = q.audits;
     submissions = ap (λ (l : List Submission). l ++ map (moved (length (entries a))) q.submissions) (sym (map_moved r.submissions));
     audits = refl;
     count = refl;
@@ -320,9 +320,9 @@ module _ (options : AuditOptions) (a b : List ℕ) (r q : Reported) (first : IsR
   unfolding whole
   second_part = record {
     before = r.submissions;
-    behind = [];
+    after = [];
     audited_before = r.audits;
-    audited_behind = [];
+    audited_after = [];
     submissions = ap (λ (l : List Submission). r.submissions ++ l) (sym (append-nil (map (moved (length (entries a))) q.submissions)));
     audits = ap (λ (l : List Audited). r.audits ++ l) (sym (append-nil q.audits));
     count = same_count (terms options.accepted.now options.assumptions) (entries a) r.submissions r.audits first.audits;

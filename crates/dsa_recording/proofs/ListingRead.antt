@@ -85,8 +85,8 @@ unseen_line Wrap code = refl
 
 left_out_reads : (number : ℕ) (why : List ℕ) → is_line why ≡ true → Reads (left_out number why) []
 left_out_reads number why e =
-    let behind : is_line (codes ", " ++ why) ≡ true = line_append (codes ", ") why refl e in
-    let place : is_line (decimal number ++ (codes ", " ++ why)) ≡ true = line_append (decimal number) (codes ", " ++ why) (decimal_line number) behind in
+    let reason : is_line (codes ", " ++ why) ≡ true = line_append (codes ", ") why refl e in
+    let place : is_line (decimal number ++ (codes ", " ++ why)) ≡ true = line_append (decimal number) (codes ", " ++ why) (decimal_line number) reason in
     let comment : is_line (codes " entry " ++ (decimal number ++ (codes ", " ++ why))) ≡ true = line_append (codes " entry ") (decimal number ++ (codes ", " ++ why)) refl place in
     record { is = comment; spells = comment_read (codes " entry " ++ (decimal number ++ (codes ", " ++ why))) comment }
 
@@ -128,8 +128,8 @@ listed_parts (f ∷ fs) gs all = let rest = listed_parts fs gs all.1 in ((all.0,
 -- the line of a barrier for a fence
 barrier_reads : (kind : List ℕ) (number : ℕ) → is_line kind ≡ true → Reads (barrier_for kind number) []
 barrier_reads kind number e =
-    let behind : is_line (codes " fence of entry " ++ decimal number) ≡ true = line_append (codes " fence of entry ") (decimal number) refl (decimal_line number) in
-    let comment : is_line (32 ∷ (kind ++ (codes " fence of entry " ++ decimal number))) ≡ true = line_append (32 ∷ []) (kind ++ (codes " fence of entry " ++ decimal number)) refl (line_append kind (codes " fence of entry " ++ decimal number) e behind) in
+    let reason : is_line (codes " fence of entry " ++ decimal number) ≡ true = line_append (codes " fence of entry ") (decimal number) refl (decimal_line number) in
+    let comment : is_line (32 ∷ (kind ++ (codes " fence of entry " ++ decimal number))) ≡ true = line_append (32 ∷ []) (kind ++ (codes " fence of entry " ++ decimal number)) refl (line_append kind (codes " fence of entry " ++ decimal number) e reason) in
     record {
       is = line_append (codes "barrier") (codes " # " ++ (kind ++ (codes " fence of entry " ++ decimal number))) refl comment;
       spells = ap line_fields (comment_behind (codes "barrier") (32 ∷ (kind ++ (codes " fence of entry " ++ decimal number))) comment) ∙ barrier_spells;

@@ -68,11 +68,11 @@ range_middle : {X : Type 0} (pre xs post : List X) (first end : ℕ) → first �
 range_middle pre xs post first end le within =
     let all : List _ = pre ++ (xs ++ post) in
     let size : (length pre + end) - (length pre + first) ≡ end - first = omega arith in
-    let behind : drop (length pre + first) all ≡ drop first (xs ++ post) = sym (drop-drop first (length pre) all) ∙ ap (drop first) (drop_at pre (xs ++ post) (length pre) refl) in
+    let after : drop (length pre + first) all ≡ drop first (xs ++ post) = sym (drop-drop first (length pre) all) ∙ ap (drop first) (drop_at pre (xs ++ post) (length pre) refl) in
     let inside : drop first (xs ++ post) ≡ drop first xs ++ post = drop-append-le first xs post (omega (arith, le, within)) in
     let few : end - first ≤ length (drop first xs) = omega (arith, length-drop first xs, within) in
     ap (λ (k : ℕ). take k (drop (length pre + first) all)) size
-    ∙ (ap (take (end - first)) (behind ∙ inside) ∙ take-append-le (end - first) (drop first xs) post few)
+    ∙ (ap (take (end - first)) (after ∙ inside) ∙ take-append-le (end - first) (drop first xs) post few)
 
 -- ---- submissions
 

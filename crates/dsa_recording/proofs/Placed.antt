@@ -9,7 +9,7 @@ use Rattle.dsa_recording.specs.declared.detail.Detail.{Detail}
 use Rattle.dsa_recording.specs.Reports.{Reported}
 use Rattle.dsa_recording.specs.declared.detail.Cause.{Cause}
 use Rattle.dsa_recording.specs.declared.detail.Cause.TheVariants as cause
-use Rattle.dsa_recording.specs.Details.{IsBehind, HasEntry, Describes, IsPlaced, IsDetail}
+use Rattle.dsa_recording.specs.Details.{IsAfter, HasEntry, Describes, IsPlaced, IsDetail}
 
 pub placed : (es : List (List ℕ)) (r : Reported) (f : Finding) (s : Submission) (a : Audited) (ms : List Member) (o : Option Detail)
     → slice_get r.submissions f.submission ≡ Some s → slice_get r.audits f.submission ≡ Some a → a.operands.items ≡ ms
@@ -24,12 +24,12 @@ placed es r f s a ms None i j e none = λ (t, ns, there, has).
     none (subst (λ (z : Submission). HasEntry es z ms f) one (subst (λ (z : List Member). HasEntry es t z f) same has))
 
 -- of entries what holds of members
-pub behind_entry : (first member entry : ℕ) (c : Cause) → entry ≡ first + member → IsBehind 0 member c → IsBehind first entry c
-behind_entry first member entry (cause.MissingFence earlier h) e lt = omega (arith, e, lt)
-behind_entry first member entry (cause.NotSeen why) e lt = tt
-behind_entry first member entry (cause.GuardingFence earlier) e lt = tt
-behind_entry first member entry (cause.SignallingFence awaited) e lt = tt
-behind_entry first member entry (cause.GuardingAndSignallingFence earlier awaited) e lt = tt
-behind_entry first member entry cause.NeedlessFence e lt = tt
-behind_entry first member entry (cause.Repeated earlier) e lt = tt
-behind_entry first member entry (cause.Flawed flaw) e lt = tt
+pub after_entry : (first member entry : ℕ) (c : Cause) → entry ≡ first + member → IsAfter 0 member c → IsAfter first entry c
+after_entry first member entry (cause.MissingFence earlier h) e lt = omega (arith, e, lt)
+after_entry first member entry (cause.NotSeen why) e lt = tt
+after_entry first member entry (cause.GuardingFence earlier) e lt = tt
+after_entry first member entry (cause.SignallingFence awaited) e lt = tt
+after_entry first member entry (cause.GuardingAndSignallingFence earlier awaited) e lt = tt
+after_entry first member entry cause.NeedlessFence e lt = tt
+after_entry first member entry (cause.Repeated earlier) e lt = tt
+after_entry first member entry (cause.Flawed flaw) e lt = tt

@@ -38,8 +38,8 @@ apart_by : (count k a : ℕ) (s : Span) → k < count
     → (leb (s.first + s.len) records_from ≡ true) ⊎ (leb (records_from + 32 * count) s.first ≡ true) → InSpan s a → InSpan (added k) a → ⊥
 apart_by count k a s lt (inl below) in_span in_record =
     absurd (omega (arith, leb-true (s.first + s.len) records_from below, in_span.1, in_record.0))
-apart_by count k a s lt (inr behind) in_span in_record =
-    absurd (omega (arith, leb-true (records_from + 32 * count) s.first behind, lt, in_span.0, in_record.1))
+apart_by count k a s lt (inr after) in_span in_record =
+    absurd (omega (arith, leb-true (records_from + 32 * count) s.first after, lt, in_span.0, in_record.1))
 
 apart_some : (count k a : ℕ) (s : Span) → k < count
     → ((s.len == 0) ≡ true) ⊎ ((leb (s.first + s.len) records_from || leb (records_from + 32 * count) s.first) ≡ true) → InSpan s a → InSpan (added k) a → ⊥

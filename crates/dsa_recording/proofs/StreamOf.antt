@@ -4,7 +4,7 @@ use Rattle.std.specs.Prelude.{if◌then◌else◌, option_map, is_some, IfOk}
 use Rattle.std.proofs.Math.Dec.{eqb}
 use Rattle.std.proofs.lemmas.List.{append_assoc, append-nil, drop_all, drop_more, take_all, take_more, take-append-drop}
 use Rattle.dsa_recording.specs.declared.dumps.Dump.{Dump}
-use Rattle.dsa_recording.specs.Dumps.{covers, part_of, bytes_at, behind, with_members, joined, stream_of, StagesStream, IsStagingFault, AnswersPortal, AnswersStaged}
+use Rattle.dsa_recording.specs.Dumps.{covers, part_of, bytes_at, put_before, with_members, joined, stream_of, StagesStream, IsStagingFault, AnswersPortal, AnswersStaged}
 use Rattle.dsa_recording.specs.declared.answer.AuditAnswer.{AuditAnswer}
 use Rattle.dsa_recording.specs.declared.answer.AuditOptions.{AuditOptions}
 use Rattle.dsa_recording.specs.Answers.{AnswersRecording}
@@ -61,7 +61,7 @@ one_more None rest back acc ms e step = absurd (let no : ◌≡◌ {A = Option (
 one_more (Some front) None back acc ms e step = absurd (let no : ◌≡◌ {A = Option (List ℕ)} None (Some acc) = e in cc)
 one_more (Some front) (Some tail) back acc ms e step =
     let whole : front ++ tail ≡ acc = cc in
-    ap (behind front) (step tail refl) ∙ ap Some (sym (append_assoc front tail ms) ∙ ap (λ (l : List ℕ). l ++ ms) whole)
+    ap (put_before front) (step tail refl) ∙ ap Some (sym (append_assoc front tail ms) ∙ ap (λ (l : List ℕ). l ++ ms) whole)
 
 append_entry : (ds : List Dump) (es : List (List ℕ)) (e acc ms : List ℕ) → stream_of ds es ≡ Some acc → with_members ds e ≡ Some ms
     → stream_of ds (es ++ e ∷ []) ≡ Some (acc ++ ms)
@@ -91,8 +91,8 @@ staged_all ds es at acc le so_far = sym (ap (stream_of ds) (take_all at es le)) 
 
 -- ---- where there is no stream
 
-none_behind : (a : List ℕ) → behind a None ≡ None
-none_behind a = refl
+put_none : (a : List ℕ) → put_before a None ≡ None
+put_none a = refl
 
 none_joined : (o : Option (List ℕ)) → joined o None ≡ None
 none_joined None = refl

@@ -26,9 +26,9 @@ first_by : (b : Bool) (n at : ℕ) → at ≤ begin_of (if b then record { first
 first_by true n at = omega arith
 first_by false n at = omega arith
 
-begins_behind : (es : List (List ℕ)) (from : ℕ) (s : Submission) → s ≡ submission_at es from → from ≤ s.first
+begins_after : (es : List (List ℕ)) (from : ℕ) (s : Submission) → s ≡ submission_at es from → from ≤ s.first
 unfolding submission_at
-begins_behind es from s is =
+begins_after es from s is =
     let here : from ≤ begin_of (submission_at es from) = first_by (code_at (slice_index_or es from []) == 1) (u32_at 32 (slice_index_or es from [])) from in
     subst (λ (x : Submission). from ≤ begin_of x) (sym is) here
 
@@ -58,7 +58,7 @@ sum_within assumed f es few from to [] [] reads all =
     let none : sum_by f [] ≡ 0 = refl in
     omega (arith, reads, none)
 sum_within assumed f es few from to (s ∷ ss) (a ∷ audits) (lt, is, le, reads) (first, all) =
-    let begun = begins_behind es from s is in
+    let begun = begins_after es from s is in
     let here = few s a first in
     let rest : end_of s + sum_by f audits ≤ to = sum_within assumed f es few (end_of s) to ss audits reads all in
     let one : sum_by f (a ∷ []) ≡ 0 + f a = refl in

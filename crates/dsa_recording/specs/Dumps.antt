@@ -29,19 +29,19 @@ bytes_at at size (d ∷ ds) = if covers at size d then Some (part_of at size d) 
 -- ---- the stream
 
 -- bytes after others, if there are any
-abbrev pub behind : List ℕ → Option (List ℕ) → Option (List ℕ)
-behind front None = None
-behind front (Some back) = Some (front ++ back)
+abbrev pub put_before : List ℕ → Option (List ℕ) → Option (List ℕ)
+put_before front None = None
+put_before front (Some back) = Some (front ++ back)
 
 -- an entry of a portal, and after the descriptor of a batch (0x01) its members, which are in memory at the address of
 -- bytes 16 to 23, as many as bytes 32 to 35 say (specification 341204, batch descriptor)
 abbrev pub with_members : List Dump → List ℕ → Option (List ℕ)
-with_members ds e = if code_at e == 1 then behind e (bytes_at (u64_at 16 e) (64 * u32_at 32 e) ds) else Some e
+with_members ds e = if code_at e == 1 then put_before e (bytes_at (u64_at 16 e) (64 * u32_at 32 e) ds) else Some e
 
 -- two parts, if both are there
 abbrev pub joined : Option (List ℕ) → Option (List ℕ) → Option (List ℕ)
 joined None back = None
-joined (Some front) back = behind front back
+joined (Some front) back = put_before front back
 
 -- all entries with their members
 unfoldable pub stream_of : List Dump → List (List ℕ) → Option (List ℕ)

@@ -21,8 +21,8 @@ abbrev pub first_part : ℕ → List ℕ → List ℕ
 first_part c text = take (before c text) text
 
 -- those after it
-abbrev pub behind : ℕ → List ℕ → List ℕ
-behind c text = drop (before c text + 1) text
+abbrev pub after : ℕ → List ℕ → List ℕ
+after c text = drop (before c text + 1) text
 
 -- ---- a queue
 
@@ -34,7 +34,7 @@ queue_with None number = None
 
 -- the queue of these bytes
 abbrev pub queue_in : List ℕ → Option Queue
-queue_in numbers = queue_with (numeral 10 (first_part 46 numbers)) (numeral 10 (behind 46 numbers))
+queue_in numbers = queue_with (numeral 10 (first_part 46 numbers)) (numeral 10 (after 46 numbers))
 
 -- `wq`, the device, a dot, the number (the names of Linux's driver idxd)
 abbrev pub queue_of : List ℕ → Option Queue
@@ -56,7 +56,7 @@ submission_with None queue code members = None
 -- the word of this index, from 0, between blanks
 abbrev pub word_at : ℕ → List ℕ → List ℕ
 word_at zero text = first_part 32 text
-word_at (suc k) text = word_at k (behind 32 text)
+word_at (suc k) text = word_at k (after 32 text)
 
 -- `S`: its number, its queue, `op` and its operation code, `members` and how many it has; what follows is not read
 abbrev pub submitted_line : List ℕ → Option Line
@@ -93,11 +93,11 @@ known_with None = None
 -- `c`: the submission, the member and its status
 abbrev pub member_line : List ℕ → Option Line
 member_line text =
-    member_with (numeral 10 (first_part 32 text)) (numeral 10 (first_part 32 (behind 32 text))) (numeral 10 (behind 32 (behind 32 text)))
+    member_with (numeral 10 (first_part 32 text)) (numeral 10 (first_part 32 (after 32 text))) (numeral 10 (after 32 (after 32 text)))
 
 -- `C`: the submission and its status
 abbrev pub ended_line : List ℕ → Option Line
-ended_line text = ended_with (numeral 10 (first_part 32 text)) (numeral 10 (behind 32 text))
+ended_line text = ended_with (numeral 10 (first_part 32 text)) (numeral 10 (after 32 text))
 
 -- `W`: the submission
 abbrev pub watched_line : List ℕ → Option Line
@@ -128,7 +128,7 @@ line_of (c ∷ d ∷ rest) = if d == 32 then line_by c rest else None
 abbrev pub SpellsUpTo : List ℕ → List Line → List ℕ → Type 0
 SpellsUpTo text [] left = text ≡ left
 SpellsUpTo text (l ∷ ls) left =
-    (before 10 text < length text) × (line_of (first_part 10 text) ≡ Some l) × SpellsUpTo (behind 10 text) ls left
+    (before 10 text < length text) × (line_of (first_part 10 text) ≡ Some l) × SpellsUpTo (after 10 text) ls left
 
 -- the text has these lines
 abbrev pub Spells : List ℕ → List Line → Type 0

@@ -4,7 +4,7 @@ ghost use Rattle.std.specs.Prelude.{◌≡◌, ◌≤◌, IfErr, IfOk, length};
 ghost use Rattle.std.specs.Str.{bytes_eq};
 ghost use Rattle.dsa_lines.specs.Numbers.{numeral};
 ghost use Rattle.dsa_waits.specs.declared.lines.LinesFault.TheVariants.{Memory};
-ghost use Rattle.dsa_waits.specs.Lines.{IsLinesFault, Spells, before, behind, ended_line, first_part, known_line, line_by, line_of, member_line, queue_in, queue_of, submission_with, submitted_line, watched_line};
+ghost use Rattle.dsa_waits.specs.Lines.{IsLinesFault, Spells, before, after, ended_line, first_part, known_line, line_by, line_of, member_line, queue_in, queue_of, submission_with, submitted_line, watched_line};
 
 use crate::event::{Event, Queue};
 use std::alloc::{AllocFailed, Global};
@@ -92,7 +92,7 @@ fn before(text: &[u8], byte: u8) -> usize
 /// What comes before the first of these bytes, and what comes after it.
 fn parted(text: &[u8], byte: u8) -> (&[u8], &[u8])
     ensures first { result.0.now ≡ first_part byte text.now }
-    ensures rest { result.1.now ≡ behind byte text.now }
+    ensures rest { result.1.now ≡ after byte text.now }
 {
     let len = before(text, byte);
     if len == text.len() {

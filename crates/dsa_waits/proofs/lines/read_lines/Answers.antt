@@ -1,7 +1,7 @@
 use Rattle.std.proofs.Common.{◌≡◌, ℕ, ◌<◌, inl, List, Some, length, sym, ap, subst, ◌∙◌, arith}
 use Rattle.std.proofs.lemmas.Bool.{eqb-false}
 use Rattle.dsa_waits.specs.declared.lines.Line.{Line}
-use Rattle.dsa_waits.specs.Lines.{SpellsUpTo, before, behind, first_part, line_of}
+use Rattle.dsa_waits.specs.Lines.{SpellsUpTo, before, after, first_part, line_of}
 use Rattle.dsa_waits.proofs.Parts.{before_within, part_length, spelled_more}
 use Rattle.dsa_waits.proofs.lines.read_lines.Goals as goal
 
@@ -25,5 +25,5 @@ loop-rest-preserved c =
     let low : before 10 c.loop-rest.rest.now < length c.loop-rest.rest.now =
     omega (arith, before_within 10 c.loop-rest.rest.now, part_length 10 c.loop-rest.rest.now, ap length c.parted.ensures.first, c.if-text-rest.false) in
     subst (λ (left : List ℕ). SpellsUpTo c.args.text.now c.push.new.self.items left) (sym c.parted.ensures.rest)
-    (subst (λ (lines : List Line). SpellsUpTo c.args.text.now lines (behind 10 c.loop-rest.rest.now)) (sym c.in_ok-push.ensures.items)
+    (subst (λ (lines : List Line). SpellsUpTo c.args.text.now lines (after 10 c.loop-rest.rest.now)) (sym c.in_ok-push.ensures.items)
     (spelled_more c.args.text.now c.loop-rest.rest.now c.loop-rest.lines.items c.in-Some.line c.loop-rest.invariant low is))

@@ -119,10 +119,8 @@ def padded():
 def unseen():
     """Every operation code, and a batch of members that are all not looked at."""
     # the size is that of no block with or without data integrity field
-    listed = {0, MOVE, FILL, COMPARE, PATTERN, DELTA, DUALCAST, *FURTHER} - {CHECK, INSERT, STRIP, UPDATE}
-    for code in range(256):
-        if code == 1:
-            continue
+    listed = {MOVE, FILL, COMPARE, PATTERN, DELTA, DUALCAST, *FURTHER} - {CHECK, INSERT, STRIP, UPDATE}
+    for code in range(3, 256):  # no-ops and drains have a flaw there
         report, status = audited(entry(code, 0, first=0x1000, second=0x2000, size=8, owner=1 << 31 | 5))
         owner = {"pasid": 5, "privileged": True}
         what = {"kind": "unseen", "operation": code, "owner": owner, "submission_owner": owner, "why": "operation"}
@@ -134,6 +132,24 @@ def unseen():
     common.expect(kinds == ["unseen"] * 64, f"64 unseen: {kinds}")
     common.expect(status == 1, "members that are denied end with status 1")
     common.expect({it["severity"] for it in report["findings"]} == {"error"}, "what is denied is an error")
+
+
+def reserved():
+    """A no-op and a drain have a flaw for each byte that they reserve, and none for the handle of an interrupt. So a
+    recording of moves that begins in the middle of one is not clean."""
+    for code, place in itertools.product((0, 2), range(16, 64)):
+        it = bytearray(entry(code))
+        it[place] = 1
+        report, status = audited(bytes(it))
+        kinds = [finding["what"]["kind"] for finding in report["findings"]]
+        wanted = ([], 0) if place in (36, 37) else (["reserved bytes"], 1)
+        common.expect((kinds, status) == wanted, f"code {code} with byte {place} set: {kinds}, status {status}")
+    for size, begin in itertools.product((8, 512, 4096, 1 << 17), range(1, 64)):
+        ways = [(0x7F12_3456_7000 + size * k, 0x7F65_4321_0000 + size * k, 0x55AA_0000_8000 + 32 * k) for k in range(4)]
+        moves = b"".join(move(first, second, size, at).bytes() for first, second, at in ways)
+        words = [program("dsa_text"), "audit", "--deny", "unseen"]
+        ran = subprocess.run(words, input=moves[begin : begin - 64], capture_output=True)
+        common.expect(ran.returncode != 0, f"moves of {size} bytes from byte {begin} on: {ran.stdout[:300]}")
 
 
 def ends():
@@ -256,7 +272,7 @@ def main(words):
     parts += [hazards_by_hand, stale_by_hand, soon_accepted, soon_used, pictures, sizes, no_effect]
     parts += [known_beside_unknown, alike]
     parts += [wide_fills, too_large]
-    parts += [planned, staged, lines, lists, unseen]
+    parts += [planned, staged, lines, lists, unseen, reserved]
     parts += [ends, in_parts, small_memory, forms, speed, soon_drawn]
     for part in named(parts, [it for it in words if not it.isdigit()]):
         part()

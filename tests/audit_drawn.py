@@ -63,11 +63,11 @@ def hazard_of(earlier, later):
 
 def separated_by(k, members, kept, columns):
     """The pairs of members that are known to conflict and that, of all fences that stay, the one before k separates
-    alone."""
+    alone: those of the first later member first, and of these the last earlier one first."""
     start = max([members.start, *(it for it in kept if it < k)])
     end = min([members.stop, *(it for it in kept if it > k)])
-    pairs = itertools.product(range(start, k), range(k, end))
-    return [(earlier, later) for earlier, later in pairs if hazard_of(columns[earlier], columns[later])]
+    pairs = itertools.product(range(k, end), reversed(range(start, k)))
+    return [(earlier, later) for later, earlier in pairs if hazard_of(columns[earlier], columns[later])]
 
 
 def needed_bar(k, members, kept, columns, lines, said):

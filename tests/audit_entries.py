@@ -194,6 +194,12 @@ def is_misaligned(it):
     return bool(it[4] & 0x04) and struct.unpack_from("<Q", it, 8)[0] % 32 != 0
 
 
+def has_reserved_bytes(it):
+    """A no-op, or a drain without flags of its own, has other bytes than zero where it reserves them: all but its
+    header and the handle of its interrupt, bytes 36 and 37."""
+    return (it[7] == 0 or (it[7] == DRAIN and not it[6])) and any(it[16:36] + it[38:])
+
+
 def can_fail(it, known, resident):
     """The entry can end with another status than 1: a checked compare or creation of a delta, a delta that is applied,
     an operation on data integrity fields, a drain, a translation fetch, one that is no no-op and does not block on page

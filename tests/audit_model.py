@@ -12,7 +12,8 @@ from pathlib import Path
 import common
 from audit_entries import (
     BLOCKS, CHECK, COPY_CRC, CRC, CREATE, DRAIN, FURTHER, INSERT, STRIP, UPDATE, WRAP, accesses, batch, batches_of,
-    can_fail, conflict, entry, has_record, is_misaligned, is_repeat, operands_of, owner_of, parts_of, record_of,
+    can_fail, conflict, entry, has_record, has_reserved_bytes, is_misaligned, is_repeat, operands_of, owner_of, parts_of,
+    record_of,
     shares_record, shows, span, touches_record,
 )
 from common import program
@@ -24,7 +25,8 @@ GREATEST_BATCH = 6
 KINDS = ("unseen", "missing", "needless", "guarding", "signalling")
 # What is wrong beside fences.
 REPEATED = "repeated operation"
-FLAWS = ("shared record", "overwrites batch", "data over record", "misaligned record", "small batch", "fence without effect")
+FLAWS = ("shared record", "overwrites batch", "data over record", "misaligned record", "reserved bytes", "small batch")
+FLAWS += ("fence without effect",)
 
 # ---- reports
 
@@ -159,6 +161,7 @@ class Batch:
                 (self.is_batch and overwrites, {"kind": "overwrites batch"}),
                 ((reads | writes) & record, {"kind": "data over record", "address": record_of(it)}),
                 (is_misaligned(it), {"kind": "misaligned record", "address": record_of(it)}),
+                (has_reserved_bytes(it), {"kind": "reserved bytes"}),
                 (not self.is_batch and it[4] & 1, {"kind": "fence without effect"}),
             ]
             yield from ((at + self.is_batch + k, "error", what) for is_there, what in there if is_there)
@@ -366,9 +369,17 @@ class Maker:
             return entry(MOVE, flags, record, self.address(), self.address(), 0)
         if code == "owner":
             return entry(MOVE, flags, record, self.address(), self.address(), size, owner=self.random.choice([7, 1 << 31]))
+        if code == 0:
+            return self.no_op(flags, record)
         own = 10 if code == DELTA else self.address() + 0x8000 if code == DUALCAST else 0
-        size = 0 if code == 0 else size
         return entry(code, flags, record, self.address(), self.address(), size, own)
+
+    def no_op(self, flags, record):
+        """A no-op, sometimes with a bit set after its header."""
+        it = bytearray(entry(0, flags, record))
+        if self.random.random() < 0.3:
+            it[self.random.choice([*range(16, 64), 36, 37])] |= 1 << self.random.randrange(8)
+        return bytes(it)
 
     def alike(self, it, other):
         """The other entry with the record, the fence and the requests of this one; sometimes with one more bit changed,

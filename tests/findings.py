@@ -29,7 +29,7 @@ NAMES = {
 }
 KINDS = {"guarding": "guarding fence", "signalling": "signalling fence", "needless": "needless fence"}
 KINDS |= {"guarding and signalling": "guarding and signalling fence", "overwrites batch": "overwrites its batch"}
-KINDS |= {"data over record": "data over its own completion record"}
+KINDS |= {"data over record": "data over its own completion record", "reserved bytes": "reserved bytes set"}
 
 
 def run(recording, *words):

@@ -27,7 +27,7 @@ use Rattle.dsa_recording.specs.Submissions.{IsWithin, IsAudited, AreAudited, mem
 use Rattle.dsa_recording.specs.declared.findings.FindingKind.{FindingKind}
 use Rattle.dsa_recording.specs.declared.findings.FindingKind.TheVariants.{Flawed}
 use Rattle.dsa_recording.specs.declared.findings.Flaw.{Flaw}
-use Rattle.dsa_recording.specs.declared.findings.Flaw.TheVariants.{OverwritesBatch, DataOverRecord, MisalignedRecord, SmallBatch, FenceWithoutEffect}
+use Rattle.dsa_recording.specs.declared.findings.Flaw.TheVariants.{OverwritesBatch, DataOverRecord, MisalignedRecord, ReservedBytes, SmallBatch, FenceWithoutEffect}
 use Rattle.dsa_recording.specs.declared.findings.Place.{Place}
 use Rattle.dsa_recording.specs.declared.findings.Place.TheVariants.{Head, Member}
 use Rattle.dsa_recording.specs.Flaws.{no_flaws}
@@ -151,17 +151,20 @@ found_upto assumed es s number a (suc k) is le =
             (
               fits_flaw ms (Member k) MisalignedRecord (get_or a.flaws.items k no_flaws).misaligned_record tt,
               (
-                fits_repeated k a.actions.items ms a.audit.repeated.items r is.audit.repeated repeats,
+                fits_flaw ms (Member k) ReservedBytes (get_or a.flaws.items k no_flaws).reserved_bytes tt,
                 (
-                  fits_accepted k ms (OrderMatters a.actions.items ms) (IsListedPair assumed.accepted (members_in es s) ms) a.fences.items a.audit.unaccepted.fences.items
-                      (get_or a.audit.unaccepted.places.items k fence_place.NoFence) named (λ i c. c.0) lt (is.audit.unaccepted.each k within) (is.audit.accepted.each k named named_at),
+                  fits_repeated k a.actions.items ms a.audit.repeated.items r is.audit.repeated repeats,
                   (
-                    fits_missing k ms (IsLeft (OrderMatters a.actions.items ms) (IsListedPair assumed.accepted (members_in es s) ms) a.fences.items) a.fences.items a.audit.corrected.fences.items p
-                        (λ i c. c.0.0) lt holds,
+                    fits_accepted k ms (OrderMatters a.actions.items ms) (IsListedPair assumed.accepted (members_in es s) ms) a.fences.items a.audit.unaccepted.fences.items
+                        (get_or a.audit.unaccepted.places.items k fence_place.NoFence) named (λ i c. c.0) lt (is.audit.unaccepted.each k within) (is.audit.accepted.each k named named_at),
                     (
-                      fits_use k a.is_batch ms (PossibleConflict a.members.items) a.fallible.items a.visible.items is.audit.reduced.held a.audit.corrected.fences.items a.audit.reduced.fences.items u
-                          (omega (arith, members, operands, has.places, places, more)) used,
-                      tt,
+                      fits_missing k ms (IsLeft (OrderMatters a.actions.items ms) (IsListedPair assumed.accepted (members_in es s) ms) a.fences.items) a.fences.items a.audit.corrected.fences.items p
+                          (λ i c. c.0.0) lt holds,
+                      (
+                        fits_use k a.is_batch ms (PossibleConflict a.members.items) a.fallible.items a.visible.items is.audit.reduced.held a.audit.corrected.fences.items a.audit.reduced.fences.items u
+                            (omega (arith, members, operands, has.places, places, more)) used,
+                        tt,
+                      ),
                     ),
                   ),
                 ),

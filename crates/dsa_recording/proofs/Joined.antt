@@ -13,7 +13,7 @@ use Rattle.dsa_recording.specs.declared.detail.Detail.{Detail}
 use Rattle.dsa_recording.specs.declared.findings.Finding.{Finding}
 use Rattle.dsa_recording.specs.declared.findings.FindingKind.{FindingKind}
 use Rattle.dsa_recording.specs.declared.findings.Flaw.{Flaw}
-use Rattle.dsa_recording.specs.declared.findings.Flaw.TheVariants.{SharedRecord, OverwritesBatch, DataOverRecord, MisalignedRecord, SmallBatch, FenceWithoutEffect}
+use Rattle.dsa_recording.specs.declared.findings.Flaw.TheVariants.{SharedRecord, OverwritesBatch, DataOverRecord, MisalignedRecord, ReservedBytes, SmallBatch, FenceWithoutEffect}
 use Rattle.dsa_recording.specs.declared.findings.Place.{Place}
 use Rattle.dsa_recording.specs.declared.findings.Place.TheVariants.{Head, Member}
 use Rattle.dsa_recording.specs.declared.stream.Submission.{Submission}
@@ -92,6 +92,7 @@ flaw_within (Member k) ms first count (SharedRecord earlier) of at = (omega (ari
 flaw_within place ms first count OverwritesBatch of at = tt
 flaw_within place ms first count DataOverRecord of at = tt
 flaw_within place ms first count MisalignedRecord of at = tt
+flaw_within place ms first count ReservedBytes of at = tt
 flaw_within place ms first count (SmallBatch size) of at = tt
 flaw_within place ms first count FenceWithoutEffect of at = tt
 
@@ -227,6 +228,7 @@ module _ (pre es post : List (List ℕ)) where
   flaw_same first at place moved_first OverwritesBatch e f lt within = refl
   flaw_same first at place moved_first DataOverRecord e f lt within = ap (u64_at 8) (entry_same place at f lt)
   flaw_same first at place moved_first MisalignedRecord e f lt within = ap (u64_at 8) (entry_same place at f lt)
+  flaw_same first at place moved_first ReservedBytes e f lt within = refl
   flaw_same first at place moved_first (SmallBatch size) e f lt within = refl
   flaw_same first at place moved_first FenceWithoutEffect e f lt within = refl
 

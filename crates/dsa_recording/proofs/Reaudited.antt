@@ -21,7 +21,7 @@ use Rattle.dsa_recording.specs.Pairs.{Terms, terms}
 use Rattle.dsa_recording.specs.declared.findings.Finding.{Finding}
 use Rattle.dsa_recording.specs.declared.findings.FindingKind.{FindingKind}
 use Rattle.dsa_recording.specs.declared.findings.Flaw.{Flaw}
-use Rattle.dsa_recording.specs.declared.findings.Flaw.TheVariants.{OverwritesBatch, DataOverRecord, MisalignedRecord, SmallBatch, FenceWithoutEffect}
+use Rattle.dsa_recording.specs.declared.findings.Flaw.TheVariants.{OverwritesBatch, DataOverRecord, MisalignedRecord, ReservedBytes, SmallBatch, FenceWithoutEffect}
 use Rattle.dsa_recording.specs.declared.findings.Place.{Place}
 use Rattle.dsa_recording.specs.declared.findings.Place.TheVariants.{Head, Member}
 use Rattle.dsa_recording.specs.declared.stream.Submission.{Submission}
@@ -154,12 +154,13 @@ member_counted number a k =
     let first : one_of (flaw_kind OverwritesBatch (get_or a.flaws.items k no_flaws).overwrites_batch) ≡ 0 = flaw_none OverwritesBatch (get_or a.flaws.items k no_flaws).overwrites_batch in
     let second : one_of (flaw_kind DataOverRecord (get_or a.flaws.items k no_flaws).data_over_record) ≡ 0 = flaw_none DataOverRecord (get_or a.flaws.items k no_flaws).data_over_record in
     let third : one_of (flaw_kind MisalignedRecord (get_or a.flaws.items k no_flaws).misaligned_record) ≡ 0 = flaw_none MisalignedRecord (get_or a.flaws.items k no_flaws).misaligned_record in
+    let fourth : one_of (flaw_kind ReservedBytes (get_or a.flaws.items k no_flaws).reserved_bytes) ≡ 0 = flaw_none ReservedBytes (get_or a.flaws.items k no_flaws).reserved_bytes in
     let repeated : one_of (repeated_kind (get_or a.audit.repeated.items k None)) ≡ 0 = repeated_none (get_or a.audit.repeated.items k None) in
     let accepted : one_of (accepted_kind (get_or a.audit.accepted.items k None)) ≡ 0 = accepted_none (get_or a.audit.accepted.items k None) in
     let missing : one_of (missing_kind (get_or a.audit.corrected.places.items k fence_place.NoFence)) ≡ 0 = missing_none (get_or a.audit.corrected.places.items k fence_place.NoFence) in
     let used : one_of (use_kind a.is_batch (get_or a.audit.reduced.uses.items k fence_use.NoFence)) ≡ use_of a.is_batch (get_or a.audit.reduced.uses.items k fence_use.NoFence)
     = use_one a.is_batch (get_or a.audit.reduced.uses.items k fence_use.NoFence) in
-    all ∙ omega (arith, unseen, shared, first, second, third, repeated, accepted, missing, used)
+    all ∙ omega (arith, unseen, shared, first, second, third, fourth, repeated, accepted, missing, used)
 
 head_counted : (number : ℕ) (a : Audited) (b : Bool) → needless_count (if b then all_found number Head (head_kinds a) else []) ≡ 0
 head_counted number a false = refl

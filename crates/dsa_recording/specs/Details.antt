@@ -12,7 +12,7 @@ use Rattle.dsa_recording.specs.declared.submission.Audited.{Audited}
 use Rattle.dsa_recording.specs.declared.findings.Finding.{Finding}
 use Rattle.dsa_recording.specs.declared.findings.FindingKind.{FindingKind}
 use Rattle.dsa_recording.specs.declared.findings.Flaw.{Flaw}
-use Rattle.dsa_recording.specs.declared.findings.Flaw.TheVariants.{SharedRecord, OverwritesBatch, DataOverRecord, MisalignedRecord, SmallBatch, FenceWithoutEffect}
+use Rattle.dsa_recording.specs.declared.findings.Flaw.TheVariants.{SharedRecord, OverwritesBatch, DataOverRecord, MisalignedRecord, ReservedBytes, SmallBatch, FenceWithoutEffect}
 use Rattle.dsa_recording.specs.declared.findings.Place.{Place}
 use Rattle.dsa_recording.specs.declared.findings.Place.TheVariants.{Head, Member}
 use Rattle.dsa_recording.specs.declared.findings.FindingKind.TheVariants.{NotSeen, MissingFence, GuardingFence, SignallingFence, GuardingAndSignallingFence, NeedlessFence, Repeated, Flawed}
@@ -37,6 +37,7 @@ IsFlawAt (Member k) (SharedRecord earlier) = earlier < k
 IsFlawAt place OverwritesBatch = Unit
 IsFlawAt place DataOverRecord = Unit
 IsFlawAt place MisalignedRecord = Unit
+IsFlawAt place ReservedBytes = Unit
 IsFlawAt place (SmallBatch size) = Unit
 IsFlawAt place FenceWithoutEffect = Unit
 
@@ -86,6 +87,7 @@ named_by_flaw (SharedRecord earlier) = earlier ∷ []
 named_by_flaw OverwritesBatch = []
 named_by_flaw DataOverRecord = []
 named_by_flaw MisalignedRecord = []
+named_by_flaw ReservedBytes = []
 named_by_flaw (SmallBatch size) = []
 named_by_flaw FenceWithoutEffect = []
 
@@ -172,6 +174,7 @@ flaw_record es first at (SharedRecord earlier) = shared_at (slice_get es (first 
 flaw_record es first at OverwritesBatch = 0
 flaw_record es first at DataOverRecord = u64_at 8 (slice_index_or es at [])
 flaw_record es first at MisalignedRecord = u64_at 8 (slice_index_or es at [])
+flaw_record es first at ReservedBytes = 0
 flaw_record es first at (SmallBatch size) = 0
 flaw_record es first at FenceWithoutEffect = 0
 
@@ -291,12 +294,12 @@ IsRight (fence_place.Missing earlier) = ⊥
 -- ---- for private clauses
 
 -- of a missing fence the earlier member is before entry `at`
-abbrev pub IsBehind : ℕ → ℕ → Cause → Type 0
-IsBehind first at (cause.MissingFence earlier h) = first + earlier < at
-IsBehind first at (cause.NotSeen why) = Unit
-IsBehind first at (cause.GuardingFence earlier) = Unit
-IsBehind first at (cause.SignallingFence awaited) = Unit
-IsBehind first at (cause.GuardingAndSignallingFence earlier awaited) = Unit
-IsBehind first at cause.NeedlessFence = Unit
-IsBehind first at (cause.Repeated earlier) = Unit
-IsBehind first at (cause.Flawed flaw) = Unit
+abbrev pub IsAfter : ℕ → ℕ → Cause → Type 0
+IsAfter first at (cause.MissingFence earlier h) = first + earlier < at
+IsAfter first at (cause.NotSeen why) = Unit
+IsAfter first at (cause.GuardingFence earlier) = Unit
+IsAfter first at (cause.SignallingFence awaited) = Unit
+IsAfter first at (cause.GuardingAndSignallingFence earlier awaited) = Unit
+IsAfter first at cause.NeedlessFence = Unit
+IsAfter first at (cause.Repeated earlier) = Unit
+IsAfter first at (cause.Flawed flaw) = Unit

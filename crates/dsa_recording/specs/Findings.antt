@@ -11,7 +11,7 @@ use Rattle.dsa_recording.specs.declared.findings.FindingKind.{FindingKind}
 use Rattle.dsa_recording.specs.declared.findings.FindingKind.TheVariants.{NotSeen, MissingFence, GuardingFence, SignallingFence, GuardingAndSignallingFence, NeedlessFence, Repeated, Flawed}
 use Rattle.dsa_recording.specs.declared.findings.Finding.{Finding}
 use Rattle.dsa_recording.specs.declared.findings.Flaw.{Flaw}
-use Rattle.dsa_recording.specs.declared.findings.Flaw.TheVariants.{SharedRecord, OverwritesBatch, DataOverRecord, MisalignedRecord, SmallBatch, FenceWithoutEffect}
+use Rattle.dsa_recording.specs.declared.findings.Flaw.TheVariants.{SharedRecord, OverwritesBatch, DataOverRecord, MisalignedRecord, ReservedBytes, SmallBatch, FenceWithoutEffect}
 use Rattle.dsa_recording.specs.declared.findings.Place.{Place}
 use Rattle.dsa_recording.specs.declared.findings.Place.TheVariants.{Head, Member}
 use Rattle.dsa_recording.specs.Flaws.{no_flaws}
@@ -76,6 +76,7 @@ member_kinds a k =
     ∷ flaw_kind OverwritesBatch (get_or a.flaws.items k no_flaws).overwrites_batch
     ∷ flaw_kind DataOverRecord (get_or a.flaws.items k no_flaws).data_over_record
     ∷ flaw_kind MisalignedRecord (get_or a.flaws.items k no_flaws).misaligned_record
+    ∷ flaw_kind ReservedBytes (get_or a.flaws.items k no_flaws).reserved_bytes
     ∷ repeated_kind (get_or a.audit.repeated.items k None)
     ∷ accepted_kind (get_or a.audit.accepted.items k None)
     ∷ missing_kind (get_or a.audit.corrected.places.items k fence_place.NoFence)

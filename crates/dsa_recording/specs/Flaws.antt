@@ -1,8 +1,8 @@
 -- What is wrong with an entry beside fences (this project's choice; what the device asks of records and batches is
 -- specification 341204). `head` is the descriptor of its batch, or of a lone descriptor the entry itself.
-use Rattle.std.specs.Prelude.{ℕ, ◌≡◌, ◌≢◌, ◌↔◌, ◌*◌, ◌-◌, ◌/◌, ◌%◌, ◌<◌, ◌≤◌, Bool, false, List, [], ◌∷◌, length, get_or, IsTrue}
+use Rattle.std.specs.Prelude.{ℕ, ◌≡◌, ◌≢◌, ◌↔◌, ◌*◌, ◌-◌, ◌/◌, ◌%◌, ◌^◌, ◌<◌, ◌≤◌, ◌==◌, ◌&&◌, ◌||◌, not, Bool, false, List, [], ◌∷◌, length, get_or, IsTrue}
 use Rattle.dsa_descriptor.specs.declared.span.Span.{Span}
-use Rattle.dsa_descriptor.specs.Places.{u32_at, u64_at, flags_at}
+use Rattle.dsa_descriptor.specs.Places.{u32_at, u64_at, code_at, flags_at}
 use Rattle.dsa_ranges.specs.Ranges.{SpansConflict}
 use Rattle.dsa_recording.specs.declared.flaws.Flaws.{Flaws}
 use Rattle.dsa_recording.specs.Entries.{records_of, entry_reads, entry_targets, entry_writes}
@@ -34,15 +34,27 @@ HasDataOverRecord e = SpansConflict (entry_reads e) (entry_targets e) [] (record
 abbrev pub HasMisalignedRecord : List ℕ → Type 0
 HasMisalignedRecord e = IsTrue (has_record (flags_at e)) × (u64_at 8 e % 32 ≢ 0)
 
+-- the bytes 16 to 35 and 38 to 63 are zero, which a no-op and a drain reserve (specification 341204, no-op and drain); 36 and
+-- 37 are the handle of an interrupt
+abbrev pub is_bare : List ℕ → Bool
+is_bare e =
+    u64_at 16 e == 0 && u64_at 24 e == 0 && u32_at 32 e == 0 && u32_at 36 e / 2 ^ 16 == 0
+    && u64_at 40 e == 0 && u64_at 48 e == 0 && u64_at 56 e == 0
+
+-- a no-op (code 0x00), or a drain (0x02) without flags of its own, has others there
+abbrev pub has_reserved_bytes : List ℕ → Bool
+has_reserved_bytes e = (code_at e == 0 || (code_at e == 2 && flags_at e / 2 ^ 16 == 0)) && not (is_bare e)
+
 -- all that is wrong with an entry, which is member k of a batch, or alone
 pub record AreFlaws (is_batch : Bool) (head : List ℕ) (k : ℕ) (e : List ℕ) (f : Flaws) : Type 0 where
   pub overwrites_batch : IsTrue f.overwrites_batch ↔ (IsTrue is_batch × OverwritesBatch head k e)
   pub data_over_record : IsTrue f.data_over_record ↔ HasDataOverRecord e
   pub misaligned_record : IsTrue f.misaligned_record ↔ HasMisalignedRecord e
+  pub reserved_bytes : f.reserved_bytes ≡ has_reserved_bytes e
 
 -- nothing is wrong
 abbrev pub no_flaws : Flaws
-no_flaws = record { overwrites_batch = false; data_over_record = false; misaligned_record = false }
+no_flaws = record { overwrites_batch = false; data_over_record = false; misaligned_record = false; reserved_bytes = false }
 
 -- of each entry
 pub record AreAllFlaws (is_batch : Bool) (head : List ℕ) (es : List (List ℕ)) (fs : List Flaws) : Type 0 where

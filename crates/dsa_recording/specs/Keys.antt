@@ -5,7 +5,7 @@ use Rattle.dsa_recording.specs.declared.detail.Detail.{Detail}
 use Rattle.dsa_recording.specs.declared.detail.Cause.{Cause}
 use Rattle.dsa_recording.specs.declared.detail.Cause.TheVariants.{NotSeen, MissingFence, GuardingFence, SignallingFence, GuardingAndSignallingFence, NeedlessFence, Repeated, Flawed}
 use Rattle.dsa_recording.specs.declared.findings.Flaw.{Flaw}
-use Rattle.dsa_recording.specs.declared.findings.Flaw.TheVariants.{SharedRecord, OverwritesBatch, DataOverRecord, MisalignedRecord, SmallBatch, FenceWithoutEffect}
+use Rattle.dsa_recording.specs.declared.findings.Flaw.TheVariants.{SharedRecord, OverwritesBatch, DataOverRecord, MisalignedRecord, ReservedBytes, SmallBatch, FenceWithoutEffect}
 use Rattle.dsa_recording.specs.declared.findings.Place.{Place}
 use Rattle.dsa_recording.specs.declared.findings.Place.TheVariants.{Head, Member}
 use Rattle.dsa_recording.specs.Details.{named_by}
@@ -28,6 +28,7 @@ flaw_key (SharedRecord earlier) = codes "shared record"
 flaw_key OverwritesBatch = codes "overwrites its batch"
 flaw_key DataOverRecord = codes "data over its own completion record"
 flaw_key MisalignedRecord = codes "misaligned record"
+flaw_key ReservedBytes = codes "reserved bytes set"
 flaw_key (SmallBatch size) = codes "small batch"
 flaw_key FenceWithoutEffect = codes "fence without effect"
 

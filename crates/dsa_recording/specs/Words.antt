@@ -11,7 +11,7 @@ use Rattle.dsa_lines.specs.Numbers.{hex}
 use Rattle.dsa_recording.specs.Details.{named_by}
 use Rattle.dsa_recording.specs.EntryWords.{bytes_words, descriptor_words, operation_words}
 use Rattle.dsa_recording.specs.declared.findings.Flaw.{Flaw}
-use Rattle.dsa_recording.specs.declared.findings.Flaw.TheVariants.{SharedRecord, OverwritesBatch, DataOverRecord, MisalignedRecord, SmallBatch, FenceWithoutEffect}
+use Rattle.dsa_recording.specs.declared.findings.Flaw.TheVariants.{SharedRecord, OverwritesBatch, DataOverRecord, MisalignedRecord, ReservedBytes, SmallBatch, FenceWithoutEffect}
 use Rattle.dsa_recording.specs.declared.findings.Place.{Place}
 use Rattle.dsa_recording.specs.declared.findings.Place.TheVariants.{Head, Member}
 use Rattle.dsa_recording.specs.declared.words.Severity.{Severity}
@@ -28,7 +28,7 @@ member_words false (Member k) = codes ", lone)"
 
 -- the number of the entry and of its submission, and what follows
 abbrev pub entry_words : ℕ → ℕ → List ℕ → List ℕ
-entry_words entry submission behind = codes "entry " ++ (decimal entry ++ (codes " (submission " ++ (decimal submission ++ behind)))
+entry_words entry submission after = codes "entry " ++ (decimal entry ++ (codes " (submission " ++ (decimal submission ++ after)))
 
 -- where a finding is
 abbrev pub place_words : Detail → List ℕ
@@ -110,6 +110,11 @@ abbrev pub repeated_words : ℕ → List ℕ
 repeated_words earlier =
     codes "repeated operation: member " ++ (decimal earlier ++ codes " does the same")
 
+-- of a batch without members what else may be wrong: one that was refused is recorded without them
+abbrev pub refused_words : ℕ → List ℕ
+refused_words size =
+    if size == 0 then codes ", at most as many as its queue takes, and a list that can be read" else []
+
 -- what is wrong beside fences
 abbrev pub flaw_words : Flaw → List ℕ
 flaw_words (SharedRecord earlier) =
@@ -117,7 +122,10 @@ flaw_words (SharedRecord earlier) =
 flaw_words OverwritesBatch = codes "overwrites its batch: it writes the descriptors or the completion record of its batch"
 flaw_words DataOverRecord = codes "data over its own completion record"
 flaw_words MisalignedRecord = codes "misaligned record: its address is no multiple of 32"
-flaw_words (SmallBatch size) = codes "batch of " ++ (decimal size ++ codes ": a batch has two members at least")
+flaw_words ReservedBytes =
+    codes "reserved bytes set: clear bytes 16 to 35 and 38 to 63, or begin the recording at an entry"
+flaw_words (SmallBatch size) =
+    codes "batch of " ++ (decimal size ++ (codes ": a batch has two members at least" ++ refused_words size))
 flaw_words FenceWithoutEffect = codes "fence without effect: wait for earlier submissions in its place"
 
 -- `complete`: no fence of its submission is missing
@@ -146,12 +154,12 @@ owners_words Nested owner head = []
 owners_words Empty owner head = []
 owners_words Wrap owner head = []
 
--- whose completion record has the shared address
-abbrev pub record_words : Bool → Bool → ℕ → List ℕ
-record_words false false earlier = []
-record_words true false earlier = codes ", in the record of member " ++ decimal earlier
-record_words false true earlier = codes ", in its own record"
-record_words true true earlier = codes ", in its own record and that of member " ++ decimal earlier
+-- whose completion record has the shared address: that of the earlier one, which has this name and number, or its own
+abbrev pub record_words : Bool → Bool → List ℕ → ℕ → List ℕ
+record_words false false name earlier = []
+record_words true false name earlier = codes ", in the record of " ++ (name ++ decimal earlier)
+record_words false true name earlier = codes ", in its own record"
+record_words true true name earlier = codes ", in its own record and that of " ++ (name ++ decimal earlier)
 
 -- how many bytes conflict from the address on
 abbrev pub overlap_words : ℕ → List ℕ
@@ -163,13 +171,14 @@ flaw_place_words address (SharedRecord earlier) = codes ", at " ++ hex address
 flaw_place_words address OverwritesBatch = []
 flaw_place_words address DataOverRecord = codes ", at " ++ hex address
 flaw_place_words address MisalignedRecord = codes ", at " ++ hex address
+flaw_place_words address ReservedBytes = []
 flaw_place_words address (SmallBatch size) = []
 flaw_place_words address FenceWithoutEffect = []
 
 -- what is said after the cause
 abbrev pub more_words : Detail → Cause → List ℕ
 more_words d (NotSeen why) = owners_words why d.owner d.head_owner
-more_words d (MissingFence earlier hazard) = overlap_words d.overlap ++ record_words d.records.earlier d.records.later earlier
+more_words d (MissingFence earlier hazard) = overlap_words d.overlap ++ record_words d.records.earlier d.records.later (codes "member ") earlier
 more_words d (GuardingFence earlier) = []
 more_words d (SignallingFence awaited) = []
 more_words d (GuardingAndSignallingFence earlier awaited) = []

@@ -5,7 +5,7 @@ ghost use Rattle.std.specs.List.{AllByRecursion};
 ghost use Rattle.dsa_audit.specs.declared.member.Member.{Member};
 ghost use Rattle.dsa_recording.specs.declared.findings.Place.TheVariants as Place;
 ghost use Rattle.dsa_recording.specs.Reports.{reported_by};
-ghost use Rattle.dsa_recording.specs.Details.{AreHazardsOf, any_meets, cause_record, finding_at, flaw_record, is_in_record, meets_record, named_by, no_hazards, overlap_of, shared_at, shared_records, touches_record, IsBehind, IsFlawAt, IsOfHead, IsOfMember, IsHeadCause, IsMemberCause, HasEntry, Describes, IsPlaced, IsDetail, IsRight};
+ghost use Rattle.dsa_recording.specs.Details.{AreHazardsOf, any_meets, cause_record, finding_at, flaw_record, is_in_record, meets_record, named_by, no_hazards, overlap_of, shared_at, shared_records, touches_record, IsAfter, IsFlawAt, IsOfHead, IsOfMember, IsHeadCause, IsMemberCause, HasEntry, Describes, IsPlaced, IsDetail, IsRight};
 
 use crate::entry::Header;
 use crate::findings::{Finding, FindingKind, Flaw, Place};
@@ -104,6 +104,7 @@ pub(crate) fn named_by(cause: Cause) -> ArrayVec<usize, 2>
             Flaw::OverwritesBatch
             | Flaw::DataOverRecord
             | Flaw::MisalignedRecord
+            | Flaw::ReservedBytes
             | Flaw::SmallBatch(_)
             | Flaw::FenceWithoutEffect,
         ) => {}
@@ -123,6 +124,7 @@ fn is_flaw_at(place: Place, flaw: Flaw) -> bool
             Flaw::OverwritesBatch
             | Flaw::DataOverRecord
             | Flaw::MisalignedRecord
+            | Flaw::ReservedBytes
             | Flaw::SmallBatch(_)
             | Flaw::FenceWithoutEffect,
         ) => true,
@@ -133,7 +135,7 @@ fn is_flaw_at(place: Place, flaw: Flaw) -> bool
 fn member_cause(operands: &[Member], member: usize, kind: FindingKind) -> Option<Cause>
     ensures cause { MatchOption result (¬ IsOfMember operands.now member kind)
         (IsMemberCause operands.now member kind) }
-    ensures behind { IfSome result (IsBehind 0 member) }
+    ensures after { IfSome result (IsAfter 0 member) }
 {
     match kind {
         FindingKind::NotSeen(why) => Some(Cause::NotSeen(why)),
@@ -202,7 +204,7 @@ fn head_cause(kind: FindingKind) -> Option<Cause>
 }
 
 /// Whether the entry may write a completion record that has the address.
-fn is_in_record(entry: &[u8; 64], address: u64) -> bool
+pub fn is_in_record(entry: &[u8; 64], address: u64) -> bool
     ensures { result ≡ is_in_record address entry.now }
 {
     let header = Header::of(entry);
@@ -216,7 +218,7 @@ fn is_in_record(entry: &[u8; 64], address: u64) -> bool
 /// later member is entry `at`.
 fn shared_records(all: &[[u8; 64]], first: usize, at: usize, cause: Cause) -> Records
     requires within { at < length all.now }
-    requires earlier { IsBehind first at cause }
+    requires earlier { IsAfter first at cause }
     ensures { result ≡ shared_records all.now first at cause }
 {
     match cause {
@@ -297,7 +299,10 @@ fn flaw_record(all: &[[u8; 64]], first: usize, at: usize, flaw: Flaw) -> u64
     match flaw {
         Flaw::SharedRecord(earlier) => shared_at(all, first.saturating_add(earlier), &all[at]),
         Flaw::DataOverRecord | Flaw::MisalignedRecord => Header::of(&all[at]).record_at,
-        Flaw::OverwritesBatch | Flaw::SmallBatch(_) | Flaw::FenceWithoutEffect => 0,
+        Flaw::OverwritesBatch
+        | Flaw::ReservedBytes
+        | Flaw::SmallBatch(_)
+        | Flaw::FenceWithoutEffect => 0,
     }
 }
 

@@ -19,6 +19,8 @@ pub enum Flaw {
     DataOverRecord,
     /// The address of a completion record is no multiple of 32.
     MisalignedRecord,
+    /// A no-op or a drain has other bytes than zero where these reserve them.
+    ReservedBytes,
     /// A batch of so many members, none or one.
     SmallBatch(usize),
     /// A lone descriptor, or that of a batch, has a fence, which orders nothing.
@@ -167,7 +169,7 @@ fn head_kinds(audited: &Audited) -> [Option<FindingKind>; 3]
 }
 
 /// What may be found of a member, in this order.
-fn member_kinds(audited: &Audited, k: usize) -> [Option<FindingKind>; 9]
+fn member_kinds(audited: &Audited, k: usize) -> [Option<FindingKind>; 10]
     requires all { HasAll audited.now }
     requires within { k < length audited.now.members.items }
     ensures { result ≡ member_kinds audited.now k }
@@ -179,6 +181,7 @@ fn member_kinds(audited: &Audited, k: usize) -> [Option<FindingKind>; 9]
         flaw_kind(Flaw::OverwritesBatch, flaws.overwrites_batch),
         flaw_kind(Flaw::DataOverRecord, flaws.data_over_record),
         flaw_kind(Flaw::MisalignedRecord, flaws.misaligned_record),
+        flaw_kind(Flaw::ReservedBytes, flaws.reserved_bytes),
         repeated_kind(audited.audit.repeated[k]),
         accepted_kind(audited.audit.accepted[k]),
         missing_kind(audited.audit.corrected.places[k]),

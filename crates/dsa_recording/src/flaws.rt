@@ -3,13 +3,13 @@
 ghost use Rattle.std.specs.Prelude.{◌≡◌, ◌↔◌, [], IfOk, IsTrue};
 ghost use Rattle.dsa_ranges.specs.Ranges.{SpansConflict};
 ghost use Rattle.dsa_recording.specs.Entries.{entry_targets, entry_writes, records_of};
-ghost use Rattle.dsa_recording.specs.Flaws.{list_spans, IsInOwnDescriptor, OverwritesBatch, HasDataOverRecord, HasMisalignedRecord, AreFlaws, AreAllFlaws};
+ghost use Rattle.dsa_recording.specs.Flaws.{list_spans, IsInOwnDescriptor, OverwritesBatch, HasDataOverRecord, HasMisalignedRecord, AreFlaws, AreAllFlaws, has_reserved_bytes, is_bare};
 
 use crate::entry::Header;
 use crate::member::{operands_of, records_of, touched_by};
 use arrayvec::ArrayVec;
 use bitflags::Flags;
-use dsa_descriptor::{FlagWord, Span, u64_at};
+use dsa_descriptor::{FlagWord, Span, u32_at, u64_at};
 use dsa_ranges::{Touched, in_conflict};
 use std::alloc::{AllocError, Global};
 
@@ -23,6 +23,8 @@ pub struct Flaws {
     pub data_over_record: bool,
     /// The address of its completion record is no multiple of 32.
     pub misaligned_record: bool,
+    /// It is a no-op or a drain, and has other bytes than zero where these reserve them.
+    pub reserved_bytes: bool,
 }
 
 /// The memory of a batch's descriptors.
@@ -138,6 +140,28 @@ pub(crate) fn has_misaligned_record(entry: &[u8; 64]) -> bool
     header.flags.contains(FlagWord::RECORD_VALID) && header.record_at % 32 != 0
 }
 
+/// Whether the bytes that a no-op or a drain reserves are zero: 16 to 35 and 38 to 63.
+fn is_bare(entry: &[u8; 64]) -> bool
+    ensures { result ≡ is_bare entry.now }
+{
+    u64_at(entry, 16) == 0
+        && u64_at(entry, 24) == 0
+        && u32_at(entry, 32) == 0
+        && u32_at(entry, 36) >> 16 == 0
+        && u64_at(entry, 40) == 0
+        && u64_at(entry, 48) == 0
+        && u64_at(entry, 56) == 0
+}
+
+/// Whether a no-op, or a drain without flags of its own, has others there.
+fn has_reserved_bytes(entry: &[u8; 64]) -> bool
+    ensures { result ≡ has_reserved_bytes entry.now }
+{
+    let header = Header::of(entry);
+    let reserves = header.code == 0 || (header.code == 2 && header.flags.0 >> 16 == 0);
+    reserves && !is_bare(entry)
+}
+
 /// All that is wrong with an entry beside fences. If it is in a batch, it is member `k` of that, which has the descriptor
 /// `head`.
 pub fn flaws_of(is_batch: bool, head: &[u8; 64], k: usize, entry: &[u8; 64]) -> Flaws
@@ -147,6 +171,7 @@ pub fn flaws_of(is_batch: bool, head: &[u8; 64], k: usize, entry: &[u8; 64]) -> 
         overwrites_batch: overwrites_its_batch(is_batch, head, k, entry),
         data_over_record: has_data_over_record(entry),
         misaligned_record: has_misaligned_record(entry),
+        reserved_bytes: has_reserved_bytes(entry),
     }
 }
 

@@ -240,6 +240,7 @@ fn flaw_key(flaw: Flaw) -> &'static str
         Flaw::OverwritesBatch => "overwrites its batch",
         Flaw::DataOverRecord => "data over its own completion record",
         Flaw::MisalignedRecord => "misaligned record",
+        Flaw::ReservedBytes => "reserved bytes set",
         Flaw::SmallBatch(_) => "small batch",
         Flaw::FenceWithoutEffect => "fence without effect",
     }

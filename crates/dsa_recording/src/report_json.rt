@@ -219,6 +219,9 @@ fn flaw_object(alloc: Global, record_at: u64, flaw: Flaw) -> Result<CauseObject,
         Flaw::OverwritesBatch => Ok(CauseObject::Plain {
             kind: "overwrites batch",
         }),
+        Flaw::ReservedBytes => Ok(CauseObject::Plain {
+            kind: "reserved bytes",
+        }),
         Flaw::SmallBatch(size) => Ok(CauseObject::Size {
             kind: "small batch",
             size: size as u64,

@@ -5,7 +5,7 @@ ghost use Rattle.dsa_recording.specs.declared.detail.Detail.{Detail};
 ghost use Rattle.dsa_recording.specs.declared.findings.Place.TheVariants as Place;
 ghost use Rattle.dsa_recording.specs.Details.{named_by};
 ghost use Rattle.dsa_recording.specs.EntryWords.{operation_words};
-ghost use Rattle.dsa_recording.specs.Words.{entry_words, member_words, place_words, note_unless, severity_of, severity_with, severity_words, unseen_words, hazard_words, guarding_words, signalling_words, both_words, repeated_words, flaw_words, flaw_place_words, needless_words, cause_words, privilege_words, owners_words, record_words, overlap_words, more_words, entry_line, other_line, other_lines, finding_line, finding_words};
+ghost use Rattle.dsa_recording.specs.Words.{entry_words, member_words, place_words, note_unless, severity_of, severity_with, severity_words, unseen_words, hazard_words, guarding_words, signalling_words, both_words, repeated_words, refused_words, flaw_words, flaw_place_words, needless_words, cause_words, privilege_words, owners_words, record_words, overlap_words, more_words, entry_line, other_line, other_lines, finding_line, finding_words};
 ghost use Rattle.dsa_audit.specs.declared.member.Unseen.TheVariants.{Owner};
 
 use crate::detail::{Cause, Detail, Records, named_by};
@@ -243,6 +243,17 @@ fn repeated_text(alloc: Global, earlier: usize) -> Result<String, AllocError>
     format!(in alloc; "repeated operation: member {earlier} does the same")
 }
 
+/// What else may be wrong with a batch of so many members: one that was refused is recorded without them.
+fn refused_words(size: usize) -> &'static str
+    ensures { result.now ≡ refused_words size }
+{
+    if size == 0 {
+        ", at most as many as its queue takes, and a list that can be read"
+    } else {
+        ""
+    }
+}
+
 /// What is wrong beside fences.
 pub(crate) fn flaw_text(alloc: Global, flaw: Flaw) -> Result<String, AllocError>
     ensures { IfOk result (λ s. string_bytes s ≡ flaw_words flaw) }
@@ -260,8 +271,13 @@ pub(crate) fn flaw_text(alloc: Global, flaw: Flaw) -> Result<String, AllocError>
             alloc,
             "misaligned record: its address is no multiple of 32",
         ),
+        Flaw::ReservedBytes => String::from_str(
+            alloc,
+            "reserved bytes set: clear bytes 16 to 35 and 38 to 63, or begin the recording at an entry",
+        ),
         Flaw::SmallBatch(size) => {
-            format!(in alloc; "batch of {size}: a batch has two members at least")
+            let more = refused_words(size);
+            format!(in alloc; "batch of {size}: a batch has two members at least{more}")
         }
         Flaw::FenceWithoutEffect => String::from_str(
             alloc,
@@ -307,16 +323,21 @@ fn owners_text(alloc: Global, owner: u32, head: u32) -> Result<String, AllocErro
     format!(in alloc; ": PASID {own}{privilege}, not PASID {other}{other_privilege}")
 }
 
-/// Whose completion record has the address of a conflict.
-fn record_text(alloc: Global, records: Records, earlier: usize) -> Result<String, AllocError>
+/// Whose completion record has the address of a conflict. The earlier one has this name, as `member `, and number.
+pub fn record_text(
+    alloc: Global,
+    records: Records,
+    name: &str,
+    earlier: usize,
+) -> Result<String, AllocError>
     ensures { IfOk result (λ s. string_bytes s ≡
-        record_words records.earlier records.later earlier) }
+        record_words records.earlier records.later name.now earlier) }
 {
     match (records.earlier, records.later) {
         (false, false) => Ok(String::new(alloc)),
-        (true, false) => format!(in alloc; ", in the record of member {earlier}"),
+        (true, false) => format!(in alloc; ", in the record of {name}{earlier}"),
         (false, true) => String::from_str(alloc, ", in its own record"),
-        (true, true) => format!(in alloc; ", in its own record and that of member {earlier}"),
+        (true, true) => format!(in alloc; ", in its own record and that of {name}{earlier}"),
     }
 }
 
@@ -336,9 +357,10 @@ fn flaw_place_text(alloc: Global, record_at: u64, flaw: Flaw) -> Result<String, 
         Flaw::SharedRecord(_) | Flaw::DataOverRecord | Flaw::MisalignedRecord => {
             format!(in alloc; ", at 0x{record_at:x}")
         }
-        Flaw::OverwritesBatch | Flaw::SmallBatch(_) | Flaw::FenceWithoutEffect => {
-            Ok(String::new(alloc))
-        }
+        Flaw::OverwritesBatch
+        | Flaw::ReservedBytes
+        | Flaw::SmallBatch(_)
+        | Flaw::FenceWithoutEffect => { Ok(String::new(alloc)) }
     }
 }
 
@@ -354,7 +376,7 @@ fn push_more(alloc: Global, line: &mut String, detail: &Detail) -> Result<(), Al
         }
         Cause::MissingFence(earlier, _) => {
             line.push_str(&overlap_text(alloc, detail.overlap)?)?;
-            line.push_str(&record_text(alloc, detail.records, earlier)?)
+            line.push_str(&record_text(alloc, detail.records, "member ", earlier)?)
         }
         Cause::NotSeen(
             Unseen::Blank | Unseen::Operation | Unseen::Nested | Unseen::Empty | Unseen::Wrap,

@@ -27,7 +27,7 @@ KINDS = {("reads", "writes"): "read after write", ("writes", "writes"): "write a
 KINDS |= {("writes", "reads"): "write after read"}
 LINE = re.compile(
     r"entry (\d+) \((.*?)\): error: missing wait, (.*?): (\w+) what entry (\d+) \((.*?)\) (\w+), in flight, at (0x\w+) "
-    r"\((\d+) bytes?\)\n  entry (\d+), byte (\d+): .*\n  entry (\d+), byte (\d+): .*"
+    r"\((\d+) bytes?\)(.*)\n  entry (\d+), byte (\d+): .*\n  entry (\d+), byte (\d+): .*"
 )
 
 # ---- recordings
@@ -247,6 +247,20 @@ def shown_with(keys, known):
     return found
 
 
+def with_record(recording, numbers, address):
+    """Those of these entries whose completion record has the address."""
+    entries = [(n, recording[64 * n : 64 * n + 64]) for n in numbers]
+    return [n for n, it in entries if it[4] & VALID and 0 <= address - struct.unpack_from("<Q", it, 8)[0] < 32]
+
+
+def record_words(recording, earlier, later, address):
+    """What a line says of them."""
+    of_other, own = f"of entry {earlier}", later in with_record(recording, [later], address)
+    if not with_record(recording, [earlier], address):
+        return ", in its own record" if own else ""
+    return f", in its own record and that {of_other}" if own else f", in the record {of_other}"
+
+
 def judge_report(recording, events, waits, shown, uses, name):
     """What the report in JSON has of the missing waits, and what the words have; answers their keys."""
     _, out, _ = audited(recording, events, "--json")
@@ -262,7 +276,8 @@ def judge_report(recording, events, waits, shown, uses, name):
         key = f"{words_of(uses[earlier], uses[later])}{where[later][2]}{where[earlier][2]}"
         ends = [{"entry": n, "member": where[n][1], "submission": where[n][0]} for n in (earlier, later)]
         wanted = {"address": address, "bytes": bytes_there, "earlier": ends[0], "hazard": hazard, "key": key}
-        wanted |= {"later": ends[1], "severity": "error"}
+        named = with_record(recording, (earlier, later), int(address, 16))
+        wanted |= {"later": ends[1], "records": named, "severity": "error"}
         numbers = [one["entry"] for one in it.pop("entries")]
         common.expect((it, numbers) == (wanted, [later, earlier]), f"{name}: {it} of {numbers} is not {wanted}")
         keys.append(key)
@@ -310,9 +325,10 @@ def judged(seed):
     for shown in LINE.finditer(out):
         later, earlier = int(shown[1]), int(shown[5])
         found[later], told[later] = earlier, (shown[3], shown[8], int(shown[9]))
-        named = [int(shown[k]) for k in range(10, 14)]
+        named = [int(shown[k]) for k in range(11, 15)]
         count = overlap(uses[earlier], uses[later], shown[3], int(shown[8], 16))
         right = KINDS.get((shown[4], shown[7])) == shown[3] and 0 < int(shown[9]) == count
+        right = right and shown[10] == record_words(recording, earlier, later, int(shown[8], 16))
         if not right or named != [later, 64 * later, earlier, 64 * earlier]:
             common.expect(False, f"seed {seed}: {count} bytes conflict: {shown[0]}")
     wanted = f"\n{len(waits)} missing wait{'s' * (len(waits) != 1)}, "

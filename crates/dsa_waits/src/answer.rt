@@ -7,12 +7,10 @@ ghost use Rattle.dsa_recording.specs.Answers.{Refuses};
 ghost use Rattle.dsa_waits.specs.Answered.{AnswersWaits, IsStatusOf, status_in};
 ghost use Rattle.dsa_waits.specs.Fitting.{AreWaits};
 
-use crate::course::Course;
 use crate::fitting::{Found, find_waits};
-use crate::keys::{Keyed, Shown, are_none, shown_waits};
+use crate::keys::{Keyed, are_none, shown_waits};
 use crate::report::{waits_json, waits_keys};
 use crate::words::{fault_text, waits_text};
-use dsa_audit::hazard_between;
 use dsa_recording::{
     Accepted, AuditAnswer, AuditFormat, MissingWait, StreamFault, Submission, read_stream,
 };
@@ -48,21 +46,6 @@ fn found_text(keyed: Keyed<'_>, found: &Found, format: AuditFormat) -> Result<St
     }
 }
 
-/// A missing wait with where its entries conflict.
-fn drawn_wait(course: &Course, wait: &Shown) -> Option<MissingWait> {
-    let (earlier, later) = (wait.earlier, wait.later);
-    if earlier >= later || later >= course.members.len() {
-        return None;
-    }
-    let hazard = hazard_between(&course.members, earlier, later)?;
-    Some(MissingWait {
-        earlier,
-        later,
-        hazard,
-        is_accepted: wait.is_accepted,
-    })
-}
-
 /// The missing waits that a picture shows.
 fn drawn_waits(
     keyed: Keyed<'_>,
@@ -73,9 +56,12 @@ fn drawn_waits(
     match format {
         AuditFormat::Picture => {
             for wait in &shown_waits(keyed, found)? {
-                if let Some(wait) = drawn_wait(&found.course, wait) {
-                    drawn.push(wait)?;
-                }
+                drawn.push(MissingWait {
+                    earlier: wait.earlier,
+                    later: wait.later,
+                    hazard: wait.hazard,
+                    is_accepted: wait.is_accepted,
+                })?;
             }
         }
         AuditFormat::Text | AuditFormat::Json | AuditFormat::List | AuditFormat::Keys => {}

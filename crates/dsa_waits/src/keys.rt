@@ -8,8 +8,11 @@ ghost use Rattle.dsa_waits.specs.Keys.{IsWaitKey, key_at, key_between, wait_key}
 
 use crate::course::{Course, entry_at};
 use crate::fitting::Found;
-use dsa_audit::{Hazards, KnownConflicts, Relation, hazards_between};
-use dsa_recording::{Accepted, Header, Submission, hazard_names, key_of_entry};
+use dsa_audit::{Hazards, KnownConflicts, Relation, hazard_between, hazards_between};
+use dsa_ranges::Hazard;
+use dsa_recording::{
+    Accepted, Header, Records, Submission, hazard_names, is_in_record, key_of_entry, overlap,
+};
 use std::alloc::{AllocError, Global};
 
 /// What the keys of waits rest on, and which of them are accepted.
@@ -177,10 +180,38 @@ pub(crate) struct Shown {
     pub earlier: usize,
     /// The entry that has to wait.
     pub later: usize,
+    /// Where they conflict, and how.
+    pub hazard: Hazard,
+    /// At how many bytes.
+    pub bytes: u64,
+    /// Whose completion record has the first of them.
+    pub records: Records,
     /// The key of both.
     pub key: String,
     /// Whether it is accepted.
     pub is_accepted: bool,
+}
+
+/// Where an entry conflicts with a later one and how, and at how many bytes.
+fn hazard_of(course: &Course, earlier: usize, later: usize) -> Option<(Hazard, u64)> {
+    if earlier >= later || later >= course.members.len() {
+        return None;
+    }
+    let hazard = hazard_between(&course.members, earlier, later)?;
+    let bytes = overlap(hazard, &course.members[earlier], &course.members[later]);
+    Some((hazard, bytes))
+}
+
+/// Which of two entries have a completion record with this address.
+fn records_at(all: &[[u8; 64]], earlier: usize, later: usize, address: u64) -> Records {
+    let has = |number: usize| {
+        all.get(number)
+            .is_some_and(|entry| is_in_record(entry, address))
+    };
+    Records {
+        earlier: has(earlier),
+        later: has(later),
+    }
 }
 
 /// Adds the missing wait of an entry for an earlier one, if it is accepted or not as asked.
@@ -195,6 +226,9 @@ fn push_shown(
     let Some(earlier) = wait else {
         return Ok(());
     };
+    let Some((hazard, bytes)) = hazard_of(course, earlier, later) else {
+        return Ok(());
+    };
     let (all, submissions) = (keyed.all, keyed.submissions);
     let Some(key) = key_of_wait(keyed.alloc, all, submissions, course, earlier, later)? else {
         return Ok(());
@@ -203,6 +237,9 @@ fn push_shown(
         shown.push(Shown {
             earlier,
             later,
+            hazard,
+            bytes,
+            records: records_at(all, earlier, later, hazard.address),
             key,
             is_accepted,
         })?;

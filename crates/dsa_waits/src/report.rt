@@ -4,8 +4,7 @@ use crate::course::{Course, entry_at, made_at};
 use crate::fitting::Found;
 use crate::keys::{Keyed, Shown, shown_waits};
 use crate::words::{severity_of, some_known};
-use dsa_audit::hazard_between;
-use dsa_recording::{EntryObject, entry_object, hazard_name, overlap, push_json};
+use dsa_recording::{EntryObject, entry_object, hazard_name, push_json};
 use serde::Serialize;
 use std::alloc::{AllocError, Global};
 use std::collections::BTreeSet;
@@ -28,6 +27,7 @@ struct WaitObject<'a> {
     hazard: &'static str,
     key: &'a str,
     later: PlaceObject,
+    records: Vec<u64>,
     severity: &'static str,
 }
 
@@ -62,6 +62,18 @@ fn entries_of(
     Ok(entries)
 }
 
+/// The entries in whose completion records the address lies.
+fn records_of(alloc: Global, wait: &Shown) -> Result<Vec<u64>, AllocError> {
+    let mut entries = Vec::new(alloc);
+    if wait.records.earlier {
+        entries.push(wait.earlier as u64)?;
+    }
+    if wait.records.later {
+        entries.push(wait.later as u64)?;
+    }
+    Ok(entries)
+}
+
 /// Writes the object of a missing wait.
 fn push_wait(
     keyed: Keyed<'_>,
@@ -70,21 +82,16 @@ fn push_wait(
     wait: &Shown,
 ) -> Result<(), AllocError> {
     let (alloc, earlier, later) = (keyed.alloc, wait.earlier, wait.later);
-    if earlier >= later || later >= course.members.len() {
-        return line.push_str("null");
-    }
-    let Some(hazard) = hazard_between(&course.members, earlier, later) else {
-        return line.push_str("null");
-    };
-    let address = hazard.address;
+    let address = wait.hazard.address;
     let object = WaitObject {
         address: format!(in alloc; "0x{address:x}")?,
-        bytes: overlap(hazard, &course.members[earlier], &course.members[later]),
+        bytes: wait.bytes,
         earlier: place_of(course, earlier),
         entries: entries_of(alloc, keyed.all, earlier, later)?,
-        hazard: hazard_name(hazard.kind),
+        hazard: hazard_name(wait.hazard.kind),
         key: wait.key.as_str(),
         later: place_of(course, later),
+        records: records_of(alloc, wait)?,
         severity: severity_of(wait.is_accepted),
     };
     push_json(alloc, line, &object)

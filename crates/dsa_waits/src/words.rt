@@ -6,10 +6,9 @@ ghost use Rattle.dsa_waits.specs.declared.fitting.WaitsFault.TheVariants.{Memory
 use crate::course::{Course, entry_at, made_at};
 use crate::event::Event;
 use crate::fitting::{Found, Misfit, WaitsFault};
-use crate::keys::{Keyed, shown_waits};
-use dsa_audit::hazard_between;
+use crate::keys::{Keyed, Shown, shown_waits};
 use dsa_ranges::{Hazard, HazardKind};
-use dsa_recording::{bytes_text, overlap, push_entry};
+use dsa_recording::{bytes_text, push_entry, record_text};
 use std::alloc::{AllocError, Global};
 
 /// An entry: its number, its submission and what it is there.
@@ -48,24 +47,19 @@ fn wait_text(
     alloc: Global,
     all: &[[u8; 64]],
     course: &Course,
-    earlier: usize,
-    later: usize,
-    severity: &str,
+    wait: &Shown,
 ) -> Result<String, AllocError> {
-    if earlier >= later || later >= course.members.len() {
-        return Ok(String::new(alloc));
-    }
-    let Some(hazard) = hazard_between(&course.members, earlier, later) else {
-        return Ok(String::new(alloc));
-    };
-    let place = place_text(alloc, course, later)?;
-    let other = place_text(alloc, course, earlier)?;
-    let what = hazard_text(alloc, &other, hazard)?;
-    let bytes = overlap(hazard, &course.members[earlier], &course.members[later]);
-    let count = bytes_text(alloc, bytes)?;
-    let mut text = format!(in alloc; "{place}: {severity}: missing wait, {what} ({count})\n")?;
-    push_entry(alloc, &mut text, all, later)?;
-    push_entry(alloc, &mut text, all, earlier)?;
+    let severity = severity_of(wait.is_accepted);
+    let place = place_text(alloc, course, wait.later)?;
+    let other = place_text(alloc, course, wait.earlier)?;
+    let what = hazard_text(alloc, &other, wait.hazard)?;
+    let count = bytes_text(alloc, wait.bytes)?;
+    let record = record_text(alloc, wait.records, "entry ", wait.earlier)?;
+    let mut text = format!(in alloc;
+        "{place}: {severity}: missing wait, {what} ({count}){record}\n"
+    )?;
+    push_entry(alloc, &mut text, all, wait.later)?;
+    push_entry(alloc, &mut text, all, wait.earlier)?;
     Ok(text)
 }
 
@@ -112,9 +106,7 @@ pub(crate) fn waits_text(keyed: Keyed<'_>, found: &Found) -> Result<String, Allo
     let mut text = String::new(alloc);
     let shown = shown_waits(keyed, found)?;
     for wait in &shown {
-        let severity = severity_of(wait.is_accepted);
-        let lines = wait_text(alloc, keyed.all, course, wait.earlier, wait.later, severity)?;
-        text.push_str(&lines)?;
+        text.push_str(&wait_text(alloc, keyed.all, course, wait)?)?;
     }
     text.push_str(&totals_text(alloc, found, shown.len())?)?;
     Ok(text)

@@ -248,12 +248,12 @@ def recorded(*words, status=0, options=()):
 def recordings():
     """What is recorded is what was submitted, with its reserved bits, also of a process that is killed or leaves early. A
     recording of more than 65,536 entries is in parts, each of whole submissions."""
-    # word 0 has the reserved bits, word 1 the flags 0x0c of a no-op, and the source the number of the submission
+    # word 0 has the reserved bits, word 1 the flags 0x0c of a no-op, and the interrupt handle is its number
     for how, status in (("killed", 128 + signal.SIGKILL), ("left", 0)):
         parts, lines, index = recorded(client("odd"), how, 5000, status=status)
         entries = b"".join(parts)
         heads = {entries[at : at + 8] for at in range(0, len(entries), 64)}
-        numbers = [int.from_bytes(entries[at + 16 : at + 24], "little") for at in range(0, len(entries), 64)]
+        numbers = [int.from_bytes(entries[at + 36 : at + 38], "little") for at in range(0, len(entries), 64)]
         expect(heads == {(0x2AA << 20).to_bytes(4, "little") + bytes([0x0C, 0, 0, 0])},
                f"{how}: the entries begin with {heads}")
         expect(numbers == list(range(5000)), f"{how}: {len(numbers)} submissions are recorded")
@@ -420,7 +420,7 @@ def options():
     end = traced("--help")
     told("--help", end, 0, "Usage: dsa_trace [OPTIONS] [--] PROGRAM", "Examples:")
     for words, why in ((["--nonsense"], "no such option"), ([], "the program to run is missing"),
-                       (["--seed"], "whole number"), (["--seed", "x"], "whole number"), (["--seeds", "0"], "at least"),
+                       (["--seed"], "a value comes"), (["--seed", "x"], "whole number"), (["--seeds", "0"], "at least"),
                        (["--audit=no"], "--audit: this option takes no value"),
                        (["--deny", "stale", "--deny=unseen"], "--deny: this option is given twice"),
                        (["--order", "x"], "fifo, members, data or all"), (["--queue", "shared,0,x"], "from 1 to 128")):
@@ -496,6 +496,10 @@ def killed():
     expect(mounts() == before and set(os.listdir("/dev")) == devices, "something is left in /dev, or mounted")
     expect(not Path("/sys/bus/dsa").exists() or Path("/sys/bus/dsa/devices/dsa0/cdev_major").exists(),
            "the device's files are left")
+    with tempfile.TemporaryDirectory(dir=WORK) as folder:
+        look = 'find "$TMPDIR" ! -type d ! -type f ! -type l; find "$TMPDIR" -name null'
+        end = traced("--", "sh", "-c", look, env=os.environ | {"TMPDIR": folder})
+        expect((end.returncode, end.stdout) == (0, ""), f"devices are in the folder of a run: {end.stdout[:300]}")
     with tempfile.TemporaryDirectory(dir=WORK) as folder:
         traced("--", client("operations"), env=os.environ | {"TMPDIR": folder})
         told("no folder for recordings", traced("--out", "/proc/x", "true", env=os.environ | {"TMPDIR": folder}), 125,

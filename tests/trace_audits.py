@@ -241,6 +241,36 @@ def in_junit():
     told("a file that can't be written", traced("--junit", "/nowhere/x", "--", "true"), 125, "/nowhere/x")
 
 
+def over_earlier():
+    """A run removes what an earlier one with its seed has recorded, and nothing else; --report says which runs are not
+    of the last command."""
+    folder, words = f"{WORK}/again", ("--order", "fifo", "--", client("unseen"), "right")
+    traced("--out", folder, "--seeds", 3, *words)
+    others = ["my.dsa", "kept.part2.dsa", "a.events", "b.stacks", "c.places", "d.errors", "notes.7.errors", "notes.txt"]
+    for name in others:
+        Path(folder, "seed-1", name).write_text(name)
+    before = {path.name for path in Path(folder, "seed-1").glob("unseen.*")}
+    traced("--out", folder, "--seeds", 2, *words)
+    now = {path.name for path in Path(folder, "seed-1").iterdir()}
+    expect(before and not before & now and {*others, "processes.txt"} < now, f"{before}, and after a run {now}")
+    expect(all(Path(folder, "seed-1", name).read_text() == name for name in others), "a file of others has changed")
+    for name in others:
+        Path(folder, "seed-1", name).unlink()
+    for path in Path(folder, "seed-1").glob("unseen.*"):
+        path.rename(path.with_name(path.name.replace("unseen.", "earlier.", 1)))
+    told("beside a recording with another name", audited("--out", folder, *words), 0)
+    kept_files = {path.suffix for path in Path(folder, "seed-1").glob("earlier.*")}
+    expect(len(kept_files) >= 3, f"of the recording with another name {kept_files} are left")
+    for path in Path(folder, "seed-1").glob("earlier.*"):
+        path.unlink()
+    traced("--out", folder, "--seeds", 2, *words)
+    said = f"1 of 3 runs in {folder} is of earlier commands, the first seed-3; runs.txt names those of the last"
+    told("runs of two commands", traced("--report", folder, env=KNOWN), 0, said)
+    traced("--out", folder, "--seeds", 3, *words)
+    end = traced("--report", folder, env=KNOWN)
+    expect("earlier commands" not in end.stderr, f"runs of one command: {end.stderr}")
+
+
 def kept():
     """The runs that --out has kept are audited again as they were, or with other options; what breaks off stays so."""
     folder = f"{WORK}/kept"
@@ -268,7 +298,15 @@ def kept():
         traced("--out", f"{WORK}/{name}", "--", "sh", "-c", f"{client('unseen')} right")
         ran("sh", "-c", command, env=KNOWN | {"DSA_TRACE_OUT": f"{WORK}/{name}/seed-1"})
         told(f"one that is {name}", traced("--report", f"{WORK}/{name}", env=KNOWN), 125, said, "has seen a part")
+    two = f"{client('ordered')} blind; exec {client('unseen')} right"
+    traced("--out", f"{WORK}/fewer", "--order", "fifo", "--", "sh", "-c", two)
+    for path in Path(WORK, "fewer", "seed-1").glob("ordered.*.events"):
+        path.unlink()
+    told("a process without events", traced("--report", f"{WORK}/fewer", env=KNOWN), 125,
+         ".events, so its recording is not audited", "has seen a part")
     told("a program beside it", traced("--report", folder, "--", "true", env=KNOWN), 125, "no program is run")
+    for words in (["--seed", 2], ["--no-watch"], ["--out", f"{WORK}/other"]):
+        told(f"{words} beside it", traced("--report", folder, *words, env=KNOWN), 125, f"{words[0]}: --report runs no")
     told("no folder", traced("--report", "/nowhere", env=KNOWN), 125, "/nowhere")
     told("a folder without runs", traced("--report", f"{folder}/seed-1", env=KNOWN), 125, "has no runs")
 
@@ -422,8 +460,8 @@ def ctest():
         expect(len(cases) == 20 and all(len(it) == failed for it in cases), f"{word}: {len(cases)} test cases")
 
 
-PARTS = [keys, reports, noted, fitting, apart, passed_on, in_json, in_junit, kept, late, unproved, terminal, nothing]
-PARTS += [ctest]
+PARTS = [keys, reports, noted, fitting, apart, passed_on, in_json, in_junit, over_earlier, kept, late, unproved]
+PARTS += [terminal, nothing, ctest]
 
 
 def main(words):

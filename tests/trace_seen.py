@@ -263,7 +263,7 @@ def threads():
         return
     for how in ([], ["--watch", 5], ["--watch", 100]):
         end = audited(*how, "--", client("ordered"), "sleep")
-        told(f"a sleep is no wait {how}", end, 1, "error: missing wait")
+        told(f"a sleep is no wait {how}", end, 1, "error: missing wait", "if the program polls data, or of several")
     for seed in (1, 2, 3):
         told(f"a wait that is missing for long, seed {seed}", audited("--seed", seed, *unseen("gap", 10000)), 1,
              "(submission 1): error: missing wait, read after write: reads what entry 0 (submission 0) writes, in ")

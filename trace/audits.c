@@ -72,9 +72,12 @@ static int judge(struct audited *a, const struct gathered *g, struct places *p, 
 
 /// Writes what is found in one process as text: first our own findings. `answer` is that of dsa_text, or NULL.
 static void write_text(const struct audited *a, const struct gathered *g, const struct findings *own, FILE *answer,
-                       const struct judgement *j, struct places *places)
+                       const struct judgement *j, struct places *places, bool is_unseen)
 {
     FILE *ours = in_memory("the report of a process");
+    if (fseek(a->report, 0, SEEK_END))
+        fail("the report of the audit");
+    const long from = ftell(a->report);
     findings_text(own, &a->all->accepted, places->stack_count, ours);
     if (places->stack_count)
         located_text(ours, j, places, g, a->report);
@@ -84,6 +87,8 @@ static void write_text(const struct audited *a, const struct gathered *g, const 
             append(answer, a->report);
     }
     fclose(ours);
+    if (!is_unseen)
+        looks_advise(a->report, from);
 }
 
 /// Writes it as JSON.
@@ -116,23 +121,22 @@ static void write_json(const struct audited *a, const char *base, const struct g
 
 /// What dsa_text answers to a recording, in words `each` finding or of those with one key the first, without the
 /// accepted lines that this one does not use.
-static FILE *answer_of(struct audits *all, const struct gathered *g, bool each, int *found)
+static FILE *answer_of(struct audits *all, const struct gathered *g, bool each, int *found, bool *is_unseen)
 {
     const bool is_json = all->options.is_json;
     FILE *answer = in_memory("the answer of dsa_text");
     *found = audit_text(all->dsa_text, &all->options, is_json ? "--json" : each ? "--all" : NULL, g, answer);
     if (*found > 1)
         return answer;
-    bool is_unseen = false;
     if (!is_json) {
-        answer = looks_explain(stale_take(&all->stale, NULL, NULL, answer), g, &is_unseen);
+        answer = looks_explain(stale_take(&all->stale, NULL, NULL, answer), g, is_unseen);
     } else if (all->options.accept) {
         FILE *words = in_memory("the answer of dsa_text");
         audit_text(all->dsa_text, &all->options, NULL, g, words);
-        fclose(looks_explain(stale_take(&all->stale, NULL, NULL, words), g, &is_unseen));
+        fclose(looks_explain(stale_take(&all->stale, NULL, NULL, words), g, is_unseen));
         answer = stale_cut(answer);
     }
-    all->seen += g->submissions > 0 && !is_unseen;
+    all->seen += g->submissions > 0 && !*is_unseen;
     return answer;
 }
 
@@ -166,7 +170,8 @@ static int audit_process(struct audited *a, const char *base)
     struct places places = {.symbols = &all->symbols};
     if (all->shows_places)
         places_read(&places, a->records, base, &all->symbols);
-    FILE *answer = answer_of(all, &g, places.stack_count, &found);
+    bool is_unseen = false;
+    FILE *answer = answer_of(all, &g, places.stack_count, &found, &is_unseen);
     if (places.stack_count)
         findings_place(&own, &places);
     findings_use(&own, &all->stale);
@@ -181,7 +186,7 @@ static int audit_process(struct audited *a, const char *base)
     if (all->options.is_json)
         write_json(a, base, &g, &own, found > 1 ? NULL : answer, &j, &places);
     else
-        write_text(a, &g, &own, found > 1 ? NULL : answer, &j, &places);
+        write_text(a, &g, &own, found > 1 ? NULL : answer, &j, &places, is_unseen);
     const bool is_whole = say_gaps(all, base, &g, &j, found);
     judged_forget(&j);
     if (all->keeps && places.stack_count)
@@ -227,15 +232,32 @@ static bool have_events(const char *records)
     return all;
 }
 
+/// Leaves out of a list of files those that are of no recording of the run; answers how many are left.
+static int keep_own(struct dirent **list, int count, const struct index *own)
+{
+    int kept = 0;
+    for (int i = 0; i < count; i++)
+        if (index_has(own, list[i]->d_name))
+            list[kept++] = list[i];
+        else
+            free(list[i]);
+    return kept;
+}
+
 /// All processes of a run, in a text each with its name if there are several.
 static int audit_all(struct audited *a)
 {
     struct dirent **list;
     int status = 0;
     const char *between = "";
-    const int count = scandir(a->records, &list, ends_in_events, versionsort);
+    struct index own;
+    int count = scandir(a->records, &list, ends_in_events, versionsort);
     if (count < 0)
         fail(a->records);
+    index_read(&own, a->records);
+    if (a->is_new) /* what else is there is not of this run */
+        count = keep_own(list, count, &own);
+    index_forget(&own);
     for (int i = 0; i < count; i++) {
         char *base = list[i]->d_name;
         *strrchr(base, '.') = 0;
@@ -252,7 +274,8 @@ static int audit_all(struct audited *a)
         free(list[i]);
     }
     free(list);
-    return have_events(a->records) ? status : FAILED;
+    const bool have_all = have_events(a->records), is_whole = index_is_whole(a->records);
+    return have_all && is_whole ? status : FAILED;
 }
 
 /// Whether all that the run submitted is recorded, and so audited.
@@ -326,7 +349,7 @@ enum verdict audit_run(struct audits *a, const struct run *run, bool is_one_of_m
     if (a->options.is_json)
         fprintf(a->last, "],\"seed\":%" PRIu64 ",\"status\":%d,\"verdict\":\"%s\"}", run->seed, run->status,
                 names[verdict]);
-    a->empty += submitted == 0;
+    a->empty += submitted == 0 && status != FAILED;
     keep(a, run->seed, &it, status, is_one_of_many ? "\n" : "");
     show(a, run->seed, it.recorded == 0, seeking(a) > before);
     keys_forget(&it.keys);

@@ -43,7 +43,8 @@ static void change(const struct gathering *c, const descriptor *batch, unsigned 
 {
     if (d->opcode == DSA_OPCODE_BATCH) {
         note(c, NESTED_BATCH, batch, member, d);
-        d->opcode = DSA_OPCODE_NOOP;
+        *d = (descriptor){.pasid = d->pasid, .priv = d->priv, .flags = d->flags, .opcode = DSA_OPCODE_NOOP,
+                          .completion_addr = d->completion_addr, .int_handle = d->int_handle};
     }
     if (d->pasid == batch->pasid && d->priv == batch->priv)
         return;

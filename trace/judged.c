@@ -14,6 +14,7 @@ void judged_forget(struct judgement *j)
     for (unsigned i = 1; i < j->report_count; i++)
         fclose(j->reports[i]);
     free(j->reports);
+    free(j->next);
     free(j->at);
     *j = (struct judgement){0};
 }
@@ -49,23 +50,38 @@ void named_add(struct named *n, const struct gathered *g, uint64_t entry)
 }
 
 /// What a finding is, as a text and a key begin with it: up to the first mark.
-static size_t kind_length(const char *text) { return strcspn(text, ",:;"); }
+static size_t kind_length(const char *text) { return strcspn(text, ",:;\n"); }
 
 static bool is_of(const struct judged *it, const struct named *of, const char *kind)
 {
     if (it->of.entry_count != of->entry_count ||
         memcmp(it->of.entries, of->entries, of->entry_count * sizeof *of->entries)) /* first, since it takes no time */
         return false;
+    if (strncmp(kind, "batch of ", strlen("batch of ")) == 0) /* the text has the number, and the key the kind */
+        kind = "small batch";
     const size_t length = kind_length(it->key);
     return kind_length(kind) == length && strncmp(it->key, kind, length) == 0;
 }
 
-const struct judged *judged_find(const struct judgement *j, unsigned source, const struct named *of, const char *text)
+/// What a finding of an error is, accepted or not; NULL if it is a warning or a note.
+static const char *kind_of(const char *text)
 {
     const char *severity = strstr(text, "): "), *kind = severity ? strchr(severity + 3, ':') : NULL;
-    for (size_t i = 0; kind && i < j->count; i++)
-        if (j->at[i].source == source && is_of(&j->at[i], of, kind + strlen(": ")))
-            return &j->at[i];
+    const bool is_error = kind && (strncmp(severity, "): error", strlen("): error")) == 0 ||
+                                   strncmp(severity, "): accepted", strlen("): accepted")) == 0);
+    return is_error ? kind + strlen(": ") : NULL;
+}
+
+const struct judged *judged_find(const struct judgement *j, unsigned source, const struct named *of, const char *text)
+{
+    const char *kind = kind_of(text);
+    for (size_t i = 0; kind && i < j->count; i++) { /* most are asked for one after another */
+        const size_t at = (*j->next + i) % j->count;
+        if (j->at[at].source != source || !is_of(&j->at[at], of, kind))
+            continue;
+        *j->next = at + 1;
+        return &j->at[at];
+    }
     return NULL;
 }
 
@@ -170,8 +186,9 @@ void judged_json(const struct judgement *j, FILE *to)
 
 void judged_begin(struct judgement *j, FILE *answer)
 {
-    *j = (struct judgement){.reports = malloc(sizeof *j->reports), .report_count = 1};
-    if (!j->reports)
+    *j = (struct judgement){.reports = malloc(sizeof *j->reports), .report_count = 1,
+                            .next = calloc(1, sizeof *j->next)};
+    if (!j->reports || !j->next)
         fail("the errors of the audit");
     j->reports[0] = answer;
 }

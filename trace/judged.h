@@ -18,6 +18,7 @@ struct judged { struct named of; char *key, *placed; unsigned source; bool is_ac
 struct judgement {
     struct judged *at;
     size_t count, room;
+    size_t *next; /* the place after the one that was found last */
     FILE **reports;
     unsigned report_count;
     bool has_others;

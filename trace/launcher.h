@@ -99,6 +99,18 @@ bool seen_is_lost(const struct board *b, const char *recording);
 /* Notes among the errors of a recording that it breaks off; false if that can't be written. */
 bool seen_mark(const char *records, const char *recording, const char *why);
 
+/* ---- index.c: which files are recordings ---- */
+struct index { char **names; size_t count; };
+/* The names of all recordings of a folder. */
+void index_read(struct index *x, const char *records);
+void index_forget(struct index *x);
+/* Whether a file of the folder is one of theirs. */
+bool index_has(const struct index *x, const char *file);
+/* Removes them, and no other file. */
+void index_empty(const char *records);
+/* False, after a sentence for each, if some have no events. */
+bool index_is_whole(const char *records);
+
 /* ---- keys.c: what findings of one kind have in common ---- */
 struct keys { char **all; size_t count, room; };
 bool key_is_of_wait(const char *key);
@@ -189,6 +201,8 @@ bool errors_noted(const char *records, const char *base, struct gathered *g, str
 /* A report in words, which is closed, with what is missed if that was not seen in place of dsa_text's line; *is_unseen
  * is set then. */
 FILE *looks_explain(FILE *report, const struct gathered *g, bool *is_unseen);
+/* Adds what helps if looks are not seen, if the report has a missing wait from this place on. */
+void looks_advise(FILE *report, long from);
 
 /* ---- unproved.c: a dsa_text that is built without proofs ---- */
 /* Builds it in the clone whose trace/out this folder is, if there is one, and the toolchain; NULL if not. */
@@ -242,6 +256,8 @@ void junit_end(const struct junit *j);
 /* ---- report.c: audits of runs that are kept ---- */
 /* Audits each run of the folder; false, after a sentence, if it has none. */
 bool report_runs(const struct options *o, struct audits *a, const struct junit *j);
+/* Notes a run in the folder of --out, the first one of a command in the place of those of earlier commands. */
+void report_note(const struct options *o, uint64_t seed, bool is_first);
 
 /* ---- escape.c ---- */
 void escape_json(FILE *to, const char *text);

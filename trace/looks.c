@@ -1,5 +1,6 @@
 /* Whether it was seen when the program looked at completion records. dsa_text names the events that say so, which a
- * user of dsa_trace does not see: a report has in place of its line what is missed without them, and what helps. */
+ * user of dsa_trace does not see: a report has in place of its line what is missed without them, and what helps; and
+ * after waits that are missing by such looks what to do if the program looks at data. */
 #include <stdlib.h>
 #include <string.h>
 
@@ -16,6 +17,10 @@ static const char unseen[] =
     "found only if the later submission came before that end; what helps is to run it with --audit or --watch where "
     "there are watchpoints, without --no-watch (which only programs need that poll data and not records), or with "
     "--delay 20000, so that ends come late\n";
+
+static const char looked[] =
+    "if the program polls data, or of several records the last, in place of each record, run it with --no-watch, which "
+    "counts each end as known\n";
 
 FILE *looks_explain(FILE *report, const struct gathered *g, bool *is_unseen)
 {
@@ -34,4 +39,21 @@ FILE *looks_explain(FILE *report, const struct gathered *g, bool *is_unseen)
         fail("the answer of dsa_text");
     fclose(report);
     return to;
+}
+
+/// Adds what helps if looks are not seen, if the report has a wait from this place on that is missing.
+void looks_advise(FILE *report, long from)
+{
+    char *line = NULL;
+    size_t room = 0;
+    bool has_missing = false;
+    if (fflush(report) || fseek(report, from, SEEK_SET))
+        fail("the report of the audit");
+    while (getline(&line, &room, report) >= 0)
+        has_missing |= strstr(line, ": error: missing wait, ") != NULL;
+    free(line);
+    if (fseek(report, 0, SEEK_END))
+        fail("the report of the audit");
+    if (has_missing)
+        fputs(looked, report);
 }

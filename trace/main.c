@@ -32,25 +32,6 @@ static void make_own_folder(void)
         fail(own.folder);
 }
 
-/// Removes what an earlier run has recorded in this folder.
-static void empty(const char *records)
-{
-    static const char *const ours[] = {".dsa", ".events", ".errors", ".stacks", ".places"};
-    DIR *list = opendir(records);
-    char path[PATH_MAX];
-    if (!list)
-        fail(records);
-    for (struct dirent *e; (e = readdir(list));) {
-        const char *end = strrchr(e->d_name, '.');
-        bool is_ours = false;
-        for (size_t i = 0; end && i < sizeof ours / sizeof *ours; i++)
-            is_ours |= strcmp(end, ours[i]) == 0;
-        if ((is_ours || strcmp(e->d_name, "processes.txt") == 0) && unlink(joined(path, records, e->d_name)))
-            fail(path);
-    }
-    closedir(list);
-}
-
 /// Where one run records: in its own folder of --out, or in a temporary one for an audit; false if it records nothing.
 static bool place_records(const struct options *o, uint64_t seed, const char *folder, char records[PATH_MAX])
 {
@@ -65,7 +46,7 @@ static bool place_records(const struct options *o, uint64_t seed, const char *fo
         errno = ENAMETOOLONG;
         fail(records);
     }
-    empty(records);
+    index_empty(records);
     return true;
 }
 
@@ -85,6 +66,8 @@ static int run_all(const struct options *o, const char *folder, struct audits *a
     for (uint64_t i = 0; i < o->seeds && status == 0 && a->status != FAILED; i++) {
         const uint64_t seed = o->settings.seed + i;
         struct run run = {.seed = seed, .records = place_records(o, seed, folder, records) ? records : NULL};
+        if (o->out)
+            report_note(o, seed, i == 0);
         run_once(o, folder, &run);
         status = run.status;
         if (status && o->seeds > 1)

@@ -89,6 +89,8 @@ static void add_to(const char *tree, const char *place, const char *name)
         if (strcmp(e->d_name, ".") && strcmp(e->d_name, ".."))
             carry_over(old, place, e->d_name);
     closedir(list);
+    if (umount2(old, MNT_DETACH)) /* else the program would find all devices in its folder of temporary files */
+        fail(old);
     mkdir(to, 0755);
     bind_to(from, to);
 }

@@ -181,7 +181,7 @@ static void take_value(struct options *o, const char *name, const char *value)
     const char **text = text_at(o, name, &is_of_audit);
     if (!number && !text && strcmp(name, "--order") && strcmp(name, "--queue"))
         refuse("there is no such option", name);
-    if (!value || !*value)
+    if (!value || !*value || strcmp(value, "--") == 0)
         refuse("a value comes after this option", name);
     o->has_pace |= strcmp(name, "--delay") == 0 || strcmp(name, "--watch") == 0;
     o->audit.is_there |= is_of_audit;
@@ -197,10 +197,22 @@ static void take_value(struct options *o, const char *name, const char *value)
         add_queue(o, value);
 }
 
+/// Whether an option says how programs are run, so that --report has no use for it.
+static bool is_of_run(const char *name)
+{
+    static const char *const of_runs[] = {"--seed", "--seeds", "--order", "--queue", "--delay", "--retry", "--fault",
+                                          "--watch", "--no-watch", "--timeout", "--out", "--cpuid", "--no-namespace",
+                                          "--no-wait", "--signals", "--verbose"};
+    size_t i = 0;
+    while (i < sizeof of_runs / sizeof *of_runs && strcmp(name, of_runs[i]))
+        i++;
+    return i < sizeof of_runs / sizeof *of_runs;
+}
+
 /// Reads the words of the command line after the program's own name.
 void options_read(char **words, struct options *o)
 {
-    char name[32];
+    char name[32], of_run[sizeof name] = "";
     *o = (struct options){.settings = settings_default(), .seeds = 1, .has_namespace = true, .waits = true,
                           .watches = true, .words = words};
     char **word = words + 1;
@@ -211,6 +223,8 @@ void options_read(char **words, struct options *o)
             print_and_end(help);
         if (strcmp(name, "--version") == 0 || strcmp(name, "-V") == 0)
             print_and_end("dsa_trace " VERSION "\n");
+        if (is_of_run(name))
+            memcpy(of_run, name, sizeof name);
         if (take_flag(o, name)) {
             if (equals)
                 refuse("this option takes no value", name);
@@ -228,6 +242,8 @@ void options_read(char **words, struct options *o)
         refuse("the program to run has no name", "''");
     if (*o->program && o->report)
         refuse("no program is run", "--report");
+    if (*of_run && o->report)
+        refuse("--report runs no program, so it has no use for this option", of_run);
     o->settings.watch = o->watches && (o->audits || o->settings.hold);
     if (o->settings.stacks > MOST_FRAMES)
         refuse("at most 32 frames are recorded", "--stacks");

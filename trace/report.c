@@ -1,6 +1,7 @@
 /* --report: audits of runs that --out has kept, with other options perhaps. */
 #include <dirent.h>
 #include <errno.h>
+#include <inttypes.h>
 #include <stdlib.h>
 #include <string.h>
 
@@ -16,6 +17,39 @@ static void report_run(const struct run *run, bool is_one_of_many, struct audits
         junit_add(j, run, verdict, a->last);
 }
 
+static const char noted[] = "runs.txt";
+
+void report_note(const struct options *o, uint64_t seed, bool is_first)
+{
+    char path[PATH_MAX];
+    FILE *to = fopen(joined(path, o->out, noted), is_first ? "w" : "a");
+    if (!to || fprintf(to, "seed-%" PRIu64 "\n", seed) < 0 || fclose(to))
+        fail(path);
+}
+
+/// Says how many of these runs the last command has not made.
+static void say_earlier(const char *folder, struct dirent **list, int count)
+{
+    char path[PATH_MAX];
+    struct keys last = {0};
+    int earlier = 0, first = 0;
+    FILE *from = fopen(joined(path, folder, noted), "r");
+    if (!from)
+        return;
+    keys_read(&last, from);
+    fclose(from);
+    for (int i = count - 1; i >= 0; i--)
+        if (!keys_has(&last, list[i]->d_name)) {
+            earlier++;
+            first = i;
+        }
+    keys_forget(&last);
+    if (earlier)
+        fprintf(stderr,
+                "dsa_trace: %d of %d runs in %s %s of earlier commands, the first %s; %s names those of the last\n",
+                earlier, count, folder, earlier > 1 ? "are" : "is", list[first]->d_name, noted);
+}
+
 /// Audits each run of the folder; false, after a sentence, if it has none.
 bool report_runs(const struct options *o, struct audits *a, const struct junit *j)
 {
@@ -27,6 +61,7 @@ bool report_runs(const struct options *o, struct audits *a, const struct junit *
                 strerror(errno));
         return false;
     }
+    say_earlier(o->report, list, count);
     for (int i = 0; i < count; i++) {
         const char *name = list[i]->d_name;
         const struct run run = {.seed = strtoull(name + strlen("seed-"), NULL, 10), .is_over = true,

@@ -125,14 +125,17 @@ static void tidy_one(const char *records, const char *name, bool is_events, cons
 /// Tidies all files of a run that end so.
 static void tidy_all(const char *records, const char *wanted, const struct board *board)
 {
+    struct index ours;
     DIR *list = opendir(records);
     if (!list)
         fail(records);
+    index_read(&ours, records);
     for (struct dirent *e; (e = readdir(list));) {
         const char *end = strrchr(e->d_name, '.');
-        if (end && strcmp(end, wanted) == 0)
+        if (end && strcmp(end, wanted) == 0 && index_has(&ours, e->d_name))
             tidy_one(records, e->d_name, strcmp(end, ".events") == 0, board);
     }
+    index_forget(&ours);
     closedir(list);
 }
 

@@ -187,7 +187,8 @@ static void replaced(char **argv)
 static void many(int count, const char *how)
 {
     for (int i = 0; i < count; i++) {
-        const descriptor d = {.rsvd = 0x2aa, .flags = ASKS, .completion_addr = (uintptr_t)r, .src_addr = i};
+        const descriptor d = {.rsvd = 0x2aa, .flags = ASKS, .completion_addr = (uintptr_t)r,
+                              .int_handle = (unsigned short)i}; /* to be told apart */
         memset((void *)r, 0, sizeof *r);
         submit(portal, &d);
         await(r);

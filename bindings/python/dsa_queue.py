@@ -202,7 +202,8 @@ class Queue:
         flags = sum(flag for flag, is_set in zip(_FLAGS.values(), chosen) if is_set)
         small = {"lists": lists, "pieces": pieces, "wait_ms": wait_ms}
         whole = [dsa_planner._whole(name, value, 2**32) for name, value in small.items()]
-        options = _Options(flags, *whole, *(dsa_planner._whole("a price", price) for price in prices))
+        lone, batch, fence = prices  # a forgotten one would be 0
+        options = _Options(flags, *whole, *(dsa_planner._whole("a price", price) for price in (lone, batch, fence)))
         why = ctypes.create_string_buffer(_WHY_ROOM)
         self._at = _library.dsa_queue_open(None if file is None else os.fsencode(file), options, why)
         said = why.value.decode(errors="replace")

@@ -145,6 +145,7 @@ def refusals():
     raised(QueueError, "a queue has at most 64 lists", Queue, lists=65, software=True)
     raised(TypeError, "lists is 1.5", Queue, lists=1.5)
     raised(ValueError, "wait_ms is -1", Queue, wait_ms=-1)
+    raised(ValueError, "not enough values", Queue, prices=(5, 6))
 
 
 def addresses():

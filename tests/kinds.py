@@ -110,7 +110,8 @@ def refused(text):
     """What is refused, with what it was taken as."""
     picture = b"\x89PNG\r\n\x1a\n" + bytes(60)
     bytes_of_list = taken("the bytes of a list")
-    answered(text, "", picture, 1, "", bytes_of_list + "error: the list's length is no multiple of 64 [1 Length]\n")
+    length = "error: the list's length is no multiple of 64: 68 bytes [1 Length]\n"
+    answered(text, "", picture, 1, "", bytes_of_list + length)
     interrupt = FIRST.bytes()[:4] + b"\x1c" + FIRST.bytes()[5:]
     for flags, code, what in [
         (0x1C, 3, "0x0010 (interrupt) is set"),

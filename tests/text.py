@@ -232,7 +232,7 @@ def texts():
         ("dualcast 0x1000 -> 0x2000 and 0x3010, 16 bytes, record 0x8000", "line 1, operation 0: ", "8 DualcastBits 0"),
     ]:
         refused("assemble", text, begin, name)
-    refused("disassemble", "000000", "the list's length is no multiple of 64", "1 Length")
+    refused("disassemble", "000000", "the list's length is no multiple of 64: 3 bytes", "1 Length")
 
 
 def sizes():

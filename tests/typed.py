@@ -275,6 +275,12 @@ def other_records(text, folder):
         ran = subprocess.run(command, input=listed, capture_output=True, text=True)
         got = re.sub("note: .*\n|.*of an earlier epoch.*\n", "", beside(ran))
         expect((ran.returncode, got) == (0, said), f"statuses {statuses}, given up {given}: wanted {said!r}, got {ran}")
+    # the second reads the record of the first too, which is written: the address is that of data
+    after_record = "move 0x1000 -> 0x8020, 64 bytes, record 0x8000\nmove 0x8000 -> 0x9000, 128 bytes, record 0xa000\n"
+    Path(folder, "some").write_bytes(bytes([3]).ljust(64, b"\0"))
+    command = [text, "resume", "--records", f"{folder}/some", "--give-up", "0"]
+    ran = subprocess.run(command, input=after_record, capture_output=True, text=True)
+    expect(line(1, 0, 0x8020) in ran.stderr, f"what is read beside a record: {ran}")
 
 
 def stopped_at_barriers(text, folder):

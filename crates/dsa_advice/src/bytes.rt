@@ -10,8 +10,12 @@ use dsa_calls::PlanFault;
 use dsa_forms::{BytesFault, bytes_of_input};
 use std::alloc::{AllocError, Global};
 
-/// The bytes of a text, or the refusal, which names the place where there are none.
-pub fn bytes_or_refusal(alloc: Global, text: &[u8]) -> Result<Result<Vec<u8>, Answer>, AllocError>
+/// The bytes of a text, or the refusal, which names the place where there are none, after these words.
+pub fn bytes_or_refusal(
+    alloc: Global,
+    text: &[u8],
+    before: &str,
+) -> Result<Result<Vec<u8>, Answer>, AllocError>
     ensures { IfOk result
         (λ read. MatchResult read
         (λ bytes. SpellsBytes text.now bytes.items)
@@ -28,7 +32,7 @@ pub fn bytes_or_refusal(alloc: Global, text: &[u8]) -> Result<Result<Vec<u8>, An
             },
         ) => {
             let reason = fault.words();
-            let message = format!(in alloc; "line {line}, column {column}: {reason}")?;
+            let message = format!(in alloc; "{before}line {line}, column {column}: {reason}")?;
             Ok(Err(Answer::fault_with(alloc, PlanFault::Hex, &message)?))
         }
     }

@@ -1,17 +1,15 @@
 //! Warnings about pieces that read what another would have written that is given up.
 
-ghost use Rattle.std.specs.Prelude.{◌≡◌, ℕ, length};
+ghost use Rattle.std.specs.Prelude.{◌≡◌, ℕ, [], length};
+ghost use Rattle.dsa_descriptor.specs.Data.{sources, targets};
 
 use crate::notes::Notes;
 use arrayvec::ArrayVec;
 use dsa_conflicts::Sweep;
-use dsa_descriptor::{Descriptor, are_addressable};
+use dsa_descriptor::{Descriptor, MOST_PIECES, are_addressable};
 use dsa_ranges::{Touched, find_hazard, touched};
 use std::alloc::{AllocError, Global};
 use std::marker::Model;
-
-/// The most pieces that a walk takes.
-const MOST_GIVEN_UP: usize = 65_536;
 
 /// What the pieces write that are given up, since the last barrier.
 #[derive(Drop)]
@@ -28,6 +26,32 @@ impl Model for Forgone {
     ghost invariant = { λ f. f.writes.count ≡ length f.pieces.items };
 }
 
+/// The data that a piece writes, without its record.
+fn written_by(piece: &Descriptor) -> Touched
+    ensures reads { result.reads.items ≡ [] }
+    ensures writes { result.writes.items ≡ targets piece.now.op piece.now.size }
+{
+    let mut writes = ArrayVec::new();
+    writes
+        .try_extend_from_slice(piece.op.targets(piece.size).as_slice())
+        .unwrap();
+    Touched {
+        reads: ArrayVec::new(),
+        writes,
+    }
+}
+
+/// What a piece reads.
+fn read_by(piece: &Descriptor) -> Touched
+    ensures reads { result.reads.items ≡ sources piece.now.op piece.now.size }
+    ensures writes { result.writes.items ≡ [] }
+{
+    Touched {
+        reads: touched(piece).reads,
+        writes: ArrayVec::new(),
+    }
+}
+
 impl Forgone {
     /// None.
     fn new(alloc: Global) -> Forgone {
@@ -40,14 +64,8 @@ impl Forgone {
     /// Adds a piece that is given up.
     fn push(self, number: usize, piece: &Descriptor) -> Result<Forgone, AllocError> {
         let Forgone { writes, mut pieces } = self;
-        let mut data = ArrayVec::new();
-        data.try_extend_from_slice(piece.op.targets(piece.size).as_slice())
-            .unwrap();
-        let spans = Touched {
-            reads: ArrayVec::new(),
-            writes: data,
-        };
-        if pieces.len() >= MOST_GIVEN_UP || !are_addressable(&spans.writes) {
+        let spans = written_by(piece);
+        if pieces.len() >= MOST_PIECES || !are_addressable(&spans.writes) {
             return Ok(Forgone { writes, pieces });
         }
         let (writes, _) = writes.add_touched(&spans)?;
@@ -57,10 +75,7 @@ impl Forgone {
 
     /// The last piece that was to write what this one reads.
     fn last_before(&self, piece: &Descriptor) -> Option<usize> {
-        let spans = Touched {
-            reads: touched(piece).reads,
-            writes: ArrayVec::new(),
-        };
+        let spans = read_by(piece);
         if !are_addressable(&spans.reads) {
             return None;
         }
@@ -79,7 +94,7 @@ fn line_of(
     let mut line = format!(in alloc; "warning: piece {later} reads what piece {earlier}, ")?;
     line.push_str("which is given up, was to write")?;
     if let (Some(first), Some(second)) = (pieces.get(earlier), pieces.get(later)) {
-        if let Some(hazard) = find_hazard(&touched(first), &touched(second)) {
+        if let Some(hazard) = find_hazard(&written_by(first), &read_by(second)) {
             line.push_str(&format!(in alloc; " at 0x{:x}", hazard.address)?)?;
         }
     }

@@ -208,7 +208,12 @@ fn push_list_values(
             }
             (Some(_) | None, Some(_) | None) => Ok(()),
         },
-        ListFault::Length | ListFault::Memory => Ok(()),
+        ListFault::Length => {
+            let bytes = list.len();
+            let plural = if bytes == 1 { "" } else { "s" };
+            text.push_str(&format!(in alloc; ": {bytes} byte{plural}")?)
+        }
+        ListFault::Memory => Ok(()),
     }
 }
 

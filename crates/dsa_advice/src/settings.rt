@@ -96,6 +96,27 @@ fn read(setting: Setting, word: &str) -> Option<u64> {
     }
 }
 
+/// Whether the word ends in letters that no size has, as `1G` or `4KB`.
+fn has_other_unit(word: &str) -> bool {
+    match word.as_bytes() {
+        [] | [b'0', b'x', ..] | [.., b'K' | b'M'] => false,
+        [.., last] => last.is_ascii_alphabetic(),
+    }
+}
+
+/// What helps with a word of a setting: how a size is written, if this is none.
+fn hint_of(setting: Setting, word: &str) -> &'static str {
+    match setting {
+        Setting::GreatestTransfer if has_other_unit(word) => "; a size is written as 64, 4K or 2M",
+        Setting::GreatestTransfer
+        | Setting::GreatestBatch
+        | Setting::Lone
+        | Setting::Fence
+        | Setting::Staging
+        | Setting::Batch => "",
+    }
+}
+
 /// What is wrong with a number of the table of prices, or how many there have to be.
 fn table_fault(
     alloc: Global,
@@ -123,7 +144,8 @@ pub fn settings_fault(alloc: Global, words: &SettingsWords<'_>) -> Result<String
         let word = word_of(setting, words);
         if !read(setting, word).is_some_and(|number| setting.allows(number)) {
             let (option, limits) = (option_of(setting), limits_of(setting));
-            return format!(in alloc; "--{option}: '{word}' is no {limits}");
+            let hint = hint_of(setting, word);
+            return format!(in alloc; "--{option}: '{word}' is no {limits}{hint}");
         }
     }
     table_fault(alloc, words, words.batches.unwrap_or(""))

@@ -23,7 +23,7 @@ The program dsa answers jobs in JSON. It looks at no arguments, reads one job fr
 standard output (man dsa): dsa < JOB";
 
 /// What the help of `explain` says of its input.
-const EXPLAINED: &str = "The input is lines of operations, as docs/FORMATS.md has them:
+const EXPLAINED: &str = "The input is lines of operations (FORMATS.md has all of their words):
 
   move 0x1000 -> 0x2000, 64 bytes, record 0x8000
   fill 0x1000 with 0102030405060708, 64 bytes, record 0x8000
@@ -53,7 +53,7 @@ Examples:
   dsa_text explain --svg judge.job > plan.svg";
 
 /// What the help of `assemble` says of lines.
-const LINES: &str = "A line is an operation, as docs/FORMATS.md has them:
+const LINES: &str = "A line is an operation (FORMATS.md has all of their words):
 
   move 0x1000 -> 0x2000, 64 bytes, record 0x8000
   fill 0x1000 with 0102030405060708, 64 bytes, record 0x8000

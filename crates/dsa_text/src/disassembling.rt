@@ -134,7 +134,7 @@ pub(crate) fn disassemble(
     if !is_text(input) {
         return lines_of(alloc, matches, input, at);
     }
-    match bytes_or_refusal(alloc, input)? {
+    match bytes_or_refusal(alloc, input, "")? {
         Ok(bytes) => lines_of(alloc, matches, &bytes, at),
         Err(refusal) => Ok(refusal),
     }

@@ -32,7 +32,7 @@ fn bytes_of_dump(
     if !is_text(&text) {
         return Ok(Ok(text));
     }
-    match bytes_or_refusal(alloc, &text)? {
+    match bytes_or_refusal(alloc, &text, "")? {
         Ok(bytes) => Ok(Ok(bytes)),
         Err(refusal) => {
             let message = refusal.text;

@@ -132,7 +132,7 @@ fn explain_bytes(
     if is_binary(input) {
         return explain_taken(alloc, matches, said, input, Spelling::Own, form);
     }
-    match bytes_or_refusal(alloc, input)? {
+    match bytes_or_refusal(alloc, input, "")? {
         Ok(bytes) => explain_taken(alloc, matches, said, &bytes, Spelling::Dump, form),
         Err(refusal) => noted(refusal, taken_note(alloc, said, "a dump")?),
     }

@@ -249,7 +249,7 @@ fn resume(
     if !is_text(input) {
         return resume_records(alloc, matches, &settings, input, text);
     }
-    match bytes_or_refusal(alloc, input)? {
+    match bytes_or_refusal(alloc, input, "the records, ")? {
         Ok(records) => resume_records(alloc, matches, &settings, &records, text),
         Err(refusal) => Ok(refusal),
     }

@@ -246,14 +246,17 @@ def over_earlier():
     of the last command."""
     folder, words = f"{WORK}/again", ("--order", "fifo", "--", client("unseen"), "right")
     traced("--out", folder, "--seeds", 3, *words)
-    others = ["my.dsa", "kept.part2.dsa", "a.events", "b.stacks", "c.places", "d.errors", "notes.7.errors", "notes.txt"]
+    others = ["my.dsa", "kept.part2.dsa", "a.events", "b.stacks", "c.places", "d.errors", "notes.7.errors"]
+    others += ["ERRORS.7.errors", "B notes.errors", "notes.txt"]
     for name in others:
         Path(folder, "seed-1", name).write_text(name)
-    before = {path.name for path in Path(folder, "seed-1").glob("unseen.*")}
+    Path(folder, "seed-1", "lost.7.errors").write_text("B it could not begin\n")
+    before = {"lost.7.errors"} | {path.name for path in Path(folder, "seed-1").glob("unseen.*")}
     traced("--out", folder, "--seeds", 2, *words)
     now = {path.name for path in Path(folder, "seed-1").iterdir()}
     expect(before and not before & now and {*others, "processes.txt"} < now, f"{before}, and after a run {now}")
     expect(all(Path(folder, "seed-1", name).read_text() == name for name in others), "a file of others has changed")
+    told("files of others beside a run", audited("--out", folder, *words), 0)
     for name in others:
         Path(folder, "seed-1", name).unlink()
     for path in Path(folder, "seed-1").glob("unseen.*"):

@@ -204,34 +204,6 @@ static int ends_in_events(const struct dirent *e)
     return end && strcmp(end, ".events") == 0;
 }
 
-static int ends_in_errors(const struct dirent *e)
-{
-    const char *end = strrchr(e->d_name, '.');
-    return end && strcmp(end, ".errors") == 0;
-}
-
-/// Whether each process with errors has events: one that could not begin its recording has none.
-static bool have_events(const char *records)
-{
-    struct dirent **list;
-    char path[PATH_MAX];
-    bool all = true;
-    const int count = scandir(records, &list, ends_in_errors, versionsort);
-    if (count < 0)
-        fail(records);
-    for (int i = 0; i < count; i++) {
-        strcpy(strrchr(list[i]->d_name, '.'), ".events"); /* as long as .errors */
-        joined(path, records, list[i]->d_name);
-        if (access(path, F_OK)) {
-            fprintf(stderr, "dsa_trace: there is no %s, so its process has recorded nothing\n", list[i]->d_name);
-            all = false;
-        }
-        free(list[i]);
-    }
-    free(list);
-    return all;
-}
-
 /// Leaves out of a list of files those that are of no recording of the run; answers how many are left.
 static int keep_own(struct dirent **list, int count, const struct index *own)
 {
@@ -274,8 +246,7 @@ static int audit_all(struct audited *a)
         free(list[i]);
     }
     free(list);
-    const bool have_all = have_events(a->records), is_whole = index_is_whole(a->records);
-    return have_all && is_whole ? status : FAILED;
+    return index_is_whole(a->records) ? status : FAILED;
 }
 
 /// Whether all that the run submitted is recorded, and so audited.

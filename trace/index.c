@@ -67,13 +67,22 @@ bool index_has(const struct index *x, const char *file)
     return bsearch(&name, x->names, x->count, sizeof *x->names, in_order) != NULL;
 }
 
-/// Whether these are the errors of a process that could not begin its recording, so that no list has it: in their
-/// folder there is no other file of its name, and they are as the library writes them.
+/// Whether the name is NAME.PID.errors, or NAME.PID-NUMBER.errors.
+static bool is_named_so(const char *file)
+{
+    const char *end = strrchr(file, '.'), *number = end;
+    while (number && number > file && strchr("0123456789-", number[-1]))
+        number--;
+    return end && strcmp(end, ".errors") == 0 && number < end && number > file && number[-1] == '.';
+}
+
+/// Whether these are the errors of a process that could not begin its recording, so that no list has it: there is no
+/// recording of this name, and they are the one line of seen_mark, or empty, since the disk was full.
 static bool is_orphan(const char *records, const char *file)
 {
-    char path[PATH_MAX], name[NAME_MAX + 8], letter = 0;
+    char path[PATH_MAX], name[NAME_MAX + 8], first[3] = "";
     const char *end = strrchr(file, '.');
-    if (!end || strcmp(end, ".errors"))
+    if (!is_named_so(file))
         return false;
     for (unsigned i = 0; i < 2; i++) {
         snprintf(name, sizeof name, "%.*s%s", (int)(end - file), file, i ? ".dsa" : ".events");
@@ -81,10 +90,10 @@ static bool is_orphan(const char *records, const char *file)
             return false;
     }
     FILE *from = fopen(joined(path, records, file), "r");
-    const bool is_read = from && fscanf(from, "%c%*[ \n]", &letter) == 1;
+    const bool is_read = from && (fread(first, 1, 2, from) == 2 || feof(from));
     if (from)
         fclose(from);
-    return is_read && letter >= 'A' && letter <= 'Z';
+    return is_read && (!*first || strcmp(first, "B ") == 0);
 }
 
 /// Removes the recordings of a folder, and no file that is none of theirs.
@@ -105,20 +114,38 @@ void index_empty(const char *records)
     index_forget(&x);
 }
 
-/// Whether each recording has its events: a sentence for each that has none.
-bool index_is_whole(const char *records)
+/// Whether each recording that is listed has its events: a sentence for each that has none.
+static bool have_events(const struct index *x, const char *records)
 {
-    struct index x;
-    char name[NAME_MAX + 1], path[PATH_MAX];
+    char name[NAME_MAX + 8], path[PATH_MAX];
     bool is_whole = true;
-    index_read(&x, records);
-    for (size_t i = 0; i < x.count; i++) {
-        snprintf(name, sizeof name, "%s.events", x.names[i]);
+    for (size_t i = 0; i < x->count; i++) {
+        snprintf(name, sizeof name, "%s.events", x->names[i]);
         if (access(joined(path, records, name), F_OK) == 0)
             continue;
         fprintf(stderr, "dsa_trace: there is no %s, so its recording is not audited\n", name);
         is_whole = false;
     }
+    return is_whole;
+}
+
+/// The same, and that each process could begin its recording.
+bool index_is_whole(const char *records)
+{
+    struct index x;
+    index_read(&x, records);
+    bool is_whole = have_events(&x, records);
+    DIR *list = opendir(records);
+    if (!list)
+        fail(records);
+    for (struct dirent *e; (e = readdir(list));) {
+        if (index_has(&x, e->d_name) || !is_orphan(records, e->d_name))
+            continue;
+        const int length = (int)(strrchr(e->d_name, '.') - e->d_name);
+        fprintf(stderr, "dsa_trace: there is no %.*s.events, so its process has recorded nothing\n", length, e->d_name);
+        is_whole = false;
+    }
+    closedir(list);
     index_forget(&x);
     return is_whole;
 }

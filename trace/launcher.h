@@ -106,9 +106,9 @@ void index_read(struct index *x, const char *records);
 void index_forget(struct index *x);
 /* Whether a file of the folder is one of theirs. */
 bool index_has(const struct index *x, const char *file);
-/* Removes them, and no other file. */
+/* Removes them, and the errors of processes that could not begin one; no other file. */
 void index_empty(const char *records);
-/* False, after a sentence for each, if some have no events. */
+/* False, after a sentence for each, if some have no events, or a process could not begin its recording. */
 bool index_is_whole(const char *records);
 
 /* ---- keys.c: what findings of one kind have in common ---- */
@@ -201,7 +201,7 @@ bool errors_noted(const char *records, const char *base, struct gathered *g, str
 /* A report in words, which is closed, with what is missed if that was not seen in place of dsa_text's line; *is_unseen
  * is set then. */
 FILE *looks_explain(FILE *report, const struct gathered *g, bool *is_unseen);
-/* Adds what helps if looks are not seen, if the report has a missing wait from this place on. */
+/* Adds what helps if looks are not seen to a report that has a missing wait after this place. */
 void looks_advise(FILE *report, long from);
 
 /* ---- unproved.c: a dsa_text that is built without proofs ---- */

@@ -41,7 +41,7 @@ FILE *looks_explain(FILE *report, const struct gathered *g, bool *is_unseen)
     return to;
 }
 
-/// Adds what helps if looks are not seen, if the report has a wait from this place on that is missing.
+/// Adds what helps if looks are not seen to a report that has a missing wait after this place.
 void looks_advise(FILE *report, long from)
 {
     char *line = NULL;

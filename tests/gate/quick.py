@@ -15,7 +15,7 @@ import proved
 import toolchain
 
 SAYS_EVERY = 10  # seconds
-LOOKS_EVERY = 0.05
+LOOKS_EVERY = 0.01  # the program is there for a moment
 
 
 def say(text):

@@ -239,6 +239,12 @@ def in_junit():
     found = cases("--audit", "--", f"{WORK}/a<b&c", "stale", status=1)
     expect(found[0][0] == "a<b&c, seed 1", f"the name is {found[0][0]}")
     told("a file that can't be written", traced("--junit", "/nowhere/x", "--", "true"), 125, "/nowhere/x")
+    full = "dsa_trace: /dev/full: No space left on device\n"
+    told("a full disk", traced("--junit", "/dev/full", "--seeds", 2, "--", "true"), 125, f"all with status 0\n{full}")
+    written = open(f"{WORK}/known.txt", encoding="utf-8").read()
+    same = traced("--audit", *known, "--junit", f"{WORK}/../{os.path.basename(WORK)}/known.txt", "--", "true")
+    told("one file for both", same, 125, "--junit would overwrite the file of --accept")
+    expect(open(f"{WORK}/known.txt", encoding="utf-8").read() == written, "the accepted errors are overwritten")
 
 
 def over_earlier():

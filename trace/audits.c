@@ -415,7 +415,7 @@ static bool print(const struct audits *a, bool has_failed)
 }
 
 /// The accepted lines that fit nothing, as a test case that fails.
-static void add_stale(const struct audits *a, const struct junit *j)
+static void add_stale(const struct audits *a, struct junit *j)
 {
     FILE *lines = in_memory("the accepted keys");
     stale_end(&a->stale, a->seen > 0, false, lines);
@@ -424,7 +424,7 @@ static void add_stale(const struct audits *a, const struct junit *j)
 }
 
 /// Prints the report, and answers the status of all audits.
-int audits_end(struct audits *a, const struct options *o, const struct junit *j, int program)
+int audits_end(struct audits *a, const struct options *o, struct junit *j, int program)
 {
     const bool has_failed = program != 0;
     if (a->empty)

@@ -1,4 +1,5 @@
 /* --junit: a file in which a system for continuous integration reads how the runs ended, a test case for each. */
+#include <errno.h>
 #include <inttypes.h>
 #include <string.h>
 
@@ -10,11 +11,18 @@ static void put(FILE *to, const char *text)
         escape_xml(to, *text);
 }
 
+/// Writes what the file has so far. The first reason for which that fails is kept: the runs go on.
+static void write_out(struct junit *j)
+{
+    if (fflush(j->to) && !j->reason)
+        j->reason = errno;
+}
+
 /// Begins the file, so that one that can't be written is said before the first run.
 void junit_begin(struct junit *j, const char *path, const char *program, bool is_unproved)
 {
     const char *slash = strrchr(program, '/');
-    *j = (struct junit){.to = opened(path, "we"), .program = slash ? slash + 1 : program};
+    *j = (struct junit){.to = opened(path, "we"), .path = path, .program = slash ? slash + 1 : program};
     fputs("<?xml version=\"1.0\" encoding=\"UTF-8\"?>\n<testsuite name=\"dsa_trace\">\n", j->to);
     if (is_unproved)
         fputs("  <properties><property name=\"dsa_text\" value=\"built without proofs\"/></properties>\n", j->to);
@@ -36,7 +44,7 @@ static const char *fault_of(const struct run *run, enum verdict verdict, char ro
 }
 
 /// A run. The report of its audit is NULL if there is none.
-void junit_add(const struct junit *j, const struct run *run, enum verdict verdict, FILE *report)
+void junit_add(struct junit *j, const struct run *run, enum verdict verdict, FILE *report)
 {
     char room[64];
     bool is_broken;
@@ -53,10 +61,11 @@ void junit_add(const struct junit *j, const struct run *run, enum verdict verdic
         fprintf(j->to, "</%s>\n  ", kind);
     }
     fputs("</testcase>\n", j->to);
+    write_out(j);
 }
 
 /// Lines of the file of --accept that fit nothing and are errors, beside the runs, since they are of all of them.
-void junit_add_stale(const struct junit *j, FILE *lines)
+void junit_add_stale(struct junit *j, FILE *lines)
 {
     fputs("  <testcase classname=\"dsa_trace\" name=\"accepted errors\" time=\"0.000\">\n"
           "    <failure message=\"accepted errors fit nothing\">",
@@ -65,12 +74,17 @@ void junit_add_stale(const struct junit *j, FILE *lines)
     for (int c; (c = fgetc(lines)) != EOF;)
         escape_xml(j->to, (char)c);
     fputs("</failure>\n  </testcase>\n", j->to);
+    write_out(j);
 }
 
-/// Ends the file.
-void junit_end(const struct junit *j)
+/// Ends the file, and dsa_trace if it could not be written.
+void junit_end(struct junit *j)
 {
     fputs("</testsuite>\n", j->to);
-    if (ferror(j->to) || fclose(j->to))
-        fail("the file of --junit");
+    write_out(j);
+    if (fclose(j->to) && !j->reason)
+        j->reason = errno;
+    errno = j->reason;
+    if (j->reason)
+        fail(j->path);
 }

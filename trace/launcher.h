@@ -244,18 +244,18 @@ bool audits_begin(struct audits *a, const struct options *o);
 enum verdict audit_run(struct audits *a, const struct run *run, bool is_one_of_many);
 /* Prints the report and says of which run, after a program with this status; answers the status of the audits. */
 struct junit;
-int audits_end(struct audits *a, const struct options *o, const struct junit *j, int program);
+int audits_end(struct audits *a, const struct options *o, struct junit *j, int program);
 
 /* ---- junit.c: the runs as test cases; `to` is NULL without --junit ---- */
-struct junit { FILE *to; const char *program; };
+struct junit { FILE *to; const char *path, *program; int reason; /* for which it could not be written */ };
 void junit_begin(struct junit *j, const char *path, const char *program, bool is_unproved);
-void junit_add(const struct junit *j, const struct run *run, enum verdict verdict, FILE *report);
-void junit_add_stale(const struct junit *j, FILE *lines);
-void junit_end(const struct junit *j);
+void junit_add(struct junit *j, const struct run *run, enum verdict verdict, FILE *report);
+void junit_add_stale(struct junit *j, FILE *lines);
+void junit_end(struct junit *j);
 
 /* ---- report.c: audits of runs that are kept ---- */
 /* Audits each run of the folder; false, after a sentence, if it has none. */
-bool report_runs(const struct options *o, struct audits *a, const struct junit *j);
+bool report_runs(const struct options *o, struct audits *a, struct junit *j);
 /* Notes a run in the folder of --out, the first one of a command in the place of those of earlier commands. */
 void report_note(const struct options *o, uint64_t seed, bool is_first);
 

@@ -59,7 +59,7 @@ static void say_failure(const struct options *o, const struct run *run, uint64_t
 }
 
 /// Runs the program with one seed after another, up to the first that fails, and audits each run. Answers its status.
-static int run_all(const struct options *o, const char *folder, struct audits *a, const struct junit *j)
+static int run_all(const struct options *o, const char *folder, struct audits *a, struct junit *j)
 {
     char records[PATH_MAX];
     int status = 0;

@@ -3,6 +3,7 @@
 #include <stdio.h>
 #include <stdlib.h>
 #include <string.h>
+#include <sys/stat.h>
 
 #include "launcher.h"
 
@@ -209,6 +210,14 @@ static bool is_of_run(const char *name)
     return i < sizeof of_runs / sizeof *of_runs;
 }
 
+/// Whether two paths name one file.
+static bool is_one_file(const char *path, const char *other)
+{
+    struct stat s, t;
+    return path && other && !stat(path, &s) && !stat(other, &t) && S_ISREG(s.st_mode) && s.st_dev == t.st_dev &&
+           s.st_ino == t.st_ino;
+}
+
 /// Reads the words of the command line after the program's own name.
 void options_read(char **words, struct options *o)
 {
@@ -254,6 +263,8 @@ void options_read(char **words, struct options *o)
                "--audit");
     if (o->audit.is_json && o->audit.writes_keys)
         refuse("--write-accept writes keys alone", "--json");
+    if (is_one_file(o->junit, o->audit.accept))
+        refuse("--junit would overwrite the file of --accept", o->junit);
 }
 
 /// A word as a shell reads it, and what comes before it.

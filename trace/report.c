@@ -10,7 +10,7 @@
 static int is_of_seed(const struct dirent *e) { return strncmp(e->d_name, "seed-", strlen("seed-")) == 0; }
 
 /// Audits the run of a seed.
-static void report_run(const struct run *run, bool is_one_of_many, struct audits *a, const struct junit *j)
+static void report_run(const struct run *run, bool is_one_of_many, struct audits *a, struct junit *j)
 {
     const enum verdict verdict = audit_run(a, run, is_one_of_many);
     if (j->to)
@@ -51,7 +51,7 @@ static void say_earlier(const char *folder, struct dirent **list, int count)
 }
 
 /// Audits each run of the folder; false, after a sentence, if it has none.
-bool report_runs(const struct options *o, struct audits *a, const struct junit *j)
+bool report_runs(const struct options *o, struct audits *a, struct junit *j)
 {
     struct dirent **list;
     char path[PATH_MAX];

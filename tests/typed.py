@@ -222,9 +222,15 @@ def other_records(text, folder):
         (0, 3, 8193, 0x1000, "a page fault after 8193 bytes, and it has 8192"),
         (1, 2, 7, 0, None), (0, 2, 0, 0, "status 2, which only those of compares have"),
         (0, 0, 0, 0, None), (1, 0, 1, 0, "status 0 and other bytes"),
+        (2, 7, 0, 0, None), (2, 8, 0, 0, None), (1, 7, 0, 0, "status 7, which only those of deltas have"),
+        (0, 0x88, 0, 0, "status 8, which only those of deltas have"),
+        (2, 5, 0, 0, "status 5, which only those of batches have"),
+        (0, 6, 0, 0, "status 6, which only those of batches have"),
+        (1, 9, 0, 0, "status 9, which only those of operations on integrity fields have"),
+        (2, 2, 0, 0, "status 2, which only those of compares have"),
         (1, 0x80, 0, 0, "status 0x80, which no record has"),
         (1, 0x81, 0, 0, "status 0x81, which no record has"), (1, 0x90, 0, 0, None),
-        (1, 0x22, 0, 0, None), (1, 0x23, 0, 0, "status 0x23, which no record has"), (1, 9, 0, 0, None),
+        (1, 0x22, 0, 0, None), (1, 0x23, 0, 0, "status 0x23, which no record has"), (0, 0x1f, 0, 0, None),
         (1, 0x0a, 0, 0, "status 0x0a, which no record has"), (1, 0xff, 0, 0, "status 0xff, which no record has"),
         (2, 3, 20, 0x9000, None), (2, 3, 21, 0xa00f, "a page fault after 21 bytes, and it has 20"),
     ):
@@ -344,6 +350,13 @@ def stopped_at_barriers(text, folder):
         ran = subprocess.run(command, input=line, capture_output=True, text=True)
         got = (ran.returncode, ran.stdout, beside(ran))
         expect(got == (0, line, said), f"resume of a move over its source: wanted {line!r}, {said!r}, got {got}")
+    # it is not done again if it is given up
+    line = "move 0x1030 -> 0x1000, 64 bytes, record 0x8000\n"
+    Path(folder, "some").write_bytes(b"\x03".ljust(32, b"\0"))
+    command = [text, "resume", "--give-up", "0", "--records", f"{folder}/some"]
+    ran = subprocess.run(command, input=line, capture_output=True, text=True)
+    got = (ran.returncode, ran.stdout, beside(ran))
+    expect(got == (0, "", ""), f"resume of a move over its source that is given up: got {got}")
     # a fence that was planned as a barrier
     Path(folder, "some").write_bytes(b"\x02".ljust(32, b"\0") + b"\x03".ljust(32, b"\0") + bytes(32))
     fenced = checked.replace("barrier\n", "fence ")

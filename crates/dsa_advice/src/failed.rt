@@ -1,5 +1,6 @@
 //! Notes on the pieces of a list that have failed.
 
+use crate::forgone::is_given_up;
 use crate::notes::Notes;
 use crate::origins::origins_of;
 use crate::unfit::{STATUS, fault_address};
@@ -75,7 +76,7 @@ pub(crate) fn failed_notes(
     let mut notes = Notes::new(alloc);
     for (piece, (origin, record)) in origins.iter().zip(records).enumerate() {
         if record[0] > 2 && notes.count() {
-            let is_given_up = given_up.get(piece).is_some_and(|mark| *mark != 0);
+            let is_given_up = is_given_up(given_up, piece);
             notes.write(&line_of(alloc, text, piece, origin, record, is_given_up)?)?;
         }
     }

@@ -26,6 +26,11 @@ impl Model for Forgone {
     ghost invariant = { λ f. f.writes.count ≡ length f.pieces.items };
 }
 
+/// Whether a piece is given up, by a byte other than 0.
+pub(crate) fn is_given_up(given_up: &[u8], piece: usize) -> bool {
+    given_up.get(piece).is_some_and(|mark| *mark != 0)
+}
+
 /// The data that a piece writes, without its record.
 fn written_by(piece: &Descriptor) -> Touched
     ensures reads { result.reads.items ≡ [] }
@@ -117,10 +122,9 @@ pub(crate) fn forgone_notes(
         if barriers.get(number).copied().unwrap_or(false) {
             forgone = Forgone::new(alloc);
         }
-        let is_given_up = given_up.get(number).is_some_and(|mark| *mark != 0);
         match record[0] {
             1 | 2 => {}
-            3..=255 if is_given_up => forgone = forgone.push(number, piece)?,
+            3..=255 if is_given_up(given_up, number) => forgone = forgone.push(number, piece)?,
             0 | 3..=255 => {
                 if let Some(earlier) = forgone.last_before(piece) {
                     if notes.count() {

@@ -1,7 +1,7 @@
 //! Notes and warnings about a list and the completion records that are to be resumed.
 
 use crate::failed::failed_notes;
-use crate::forgone::forgone_notes;
+use crate::forgone::{forgone_notes, is_given_up};
 use crate::kept::joined;
 use crate::origins::count_of;
 use crate::overwritten::overwritten_notes;
@@ -88,14 +88,16 @@ fn overwrites_its_source(piece: &Descriptor) -> bool {
     }
 }
 
-/// The warning about the first piece that has failed and may have overwritten what it reads.
+/// The warning about the first piece that is to be done again, and may have overwritten what it reads.
 fn source_note(
     alloc: Global,
     pieces: &[Descriptor],
     completions: &[[u8; 32]],
+    given_up: &[u8],
 ) -> Result<Option<String>, AllocError> {
     for (number, (piece, completion)) in pieces.iter().zip(completions).enumerate() {
-        if completion[0] > 2 && overwrites_its_source(piece) {
+        let is_left = completion[0] > 2 && !is_given_up(given_up, number);
+        if is_left && overwrites_its_source(piece) {
             let mut text = format!(in alloc; "warning: piece {number} has failed, ")?;
             text.push_str("and may have overwritten a part of what it reads: ")?;
             text.push_str("restore that before it is done again\n")?;
@@ -119,7 +121,7 @@ fn planned_notes(
     } = planned;
     let (completions, _) = records.as_chunks::<32>();
     let unfit = unfit_notes(alloc, pieces, completions)?;
-    let source = source_note(alloc, pieces, completions)?;
+    let source = source_note(alloc, pieces, completions, given_up)?;
     let forgone = forgone_notes(alloc, pieces, barriers, completions, given_up)?;
     let early = early_note(alloc, planned, completions)?;
     joined(joined(unfit, source)?, joined(forgone, early)?)

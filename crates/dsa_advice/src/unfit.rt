@@ -18,8 +18,8 @@ enum Unfit {
     NotCleared,
     /// Its status is none that `linux/idxd.h` names.
     NoStatus(u8),
-    /// It says that a compare has found another result than expected, and the piece compares nothing.
-    NoCompare,
+    /// Its status is one that only records of these other operations have.
+    OtherOperation(u8, &'static str),
     /// It has a page fault at this address, which is not 0, and the piece has nothing in that page.
     FarFault(u64),
     /// It has a page fault after more bytes than the piece has.
@@ -31,6 +31,29 @@ fn compares(op: &Op) -> bool {
     match *op {
         Op::Compare { .. } | Op::ComparePattern { .. } => true,
         Op::Move { .. } | Op::Fill { .. } | Op::ApplyDelta { .. } | Op::Dualcast { .. } => false,
+    }
+}
+
+/// Whether the piece applies a delta.
+fn applies_delta(op: &Op) -> bool {
+    match *op {
+        Op::ApplyDelta { .. } => true,
+        Op::Move { .. }
+        | Op::Fill { .. }
+        | Op::Compare { .. }
+        | Op::ComparePattern { .. }
+        | Op::Dualcast { .. } => false,
+    }
+}
+
+/// The operations of which alone the record has this status, unless the piece is one of them.
+fn other_operations(op: &Op, status: u8) -> Option<&'static str> {
+    match status {
+        2 if !compares(op) => Some("compares"),
+        5 | 6 => Some("batches"),
+        7 | 8 if !applies_delta(op) => Some("deltas"),
+        9 => Some("operations on integrity fields"),
+        0..=u8::MAX => None,
     }
 }
 
@@ -83,10 +106,12 @@ fn unfit_in(piece: &Descriptor, record: &[u8; 32]) -> Option<Unfit> {
     let status = record[0];
     match status {
         0 if record.iter().any(|byte| *byte != 0) => Some(Unfit::NotCleared),
-        2 if !compares(&piece.op) => Some(Unfit::NoCompare),
         3 | 4 | 0x83 | 0x84 => unfit_fault(piece, record),
         0x0a..=0x0f | 0x23..=0x82 | 0x8a..=0x8f | 0xa3..=0xff => Some(Unfit::NoStatus(status)),
-        0..=9 | 0x10..=0x22 | 0x85..=0x89 | 0x90..=0xa2 => None,
+        0..=9 | 0x10..=0x22 | 0x85..=0x89 | 0x90..=0xa2 => {
+            let whose = other_operations(&piece.op, status & STATUS)?;
+            Some(Unfit::OtherOperation(status & STATUS, whose))
+        }
     }
 }
 
@@ -97,11 +122,8 @@ fn words_of(alloc: Global, piece: &Descriptor, unfit: Unfit) -> Result<String, A
         Unfit::NoStatus(status) => {
             format!(in alloc; "its record has status 0x{status:02x}, which no record has")
         }
-        Unfit::NoCompare => {
-            String::from_str(
-                alloc,
-                "its record has status 2, which only those of compares have",
-            )
+        Unfit::OtherOperation(status, whose) => {
+            format!(in alloc; "its record has status {status}, which only those of {whose} have")
         }
         Unfit::FarFault(address) => format!(in alloc;
             "its record has a page fault at 0x{address:x}, in no page that it reads or writes"

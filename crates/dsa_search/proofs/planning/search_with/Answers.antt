@@ -1,39 +1,43 @@
 use Rattle.std.proofs.Common.{◌-◌, ◌<◌, length, map, arith}
+use Rattle.std.proofs.lemmas.List.{length-map}
 use Rattle.std.proofs.lemmas.Result.{IfOk-weaker}
 use Rattle.dsa_descriptor.specs.Descriptors.{fields}
 use Rattle.dsa_ranges.specs.Ranges.{ConflictAt}
 use Rattle.dsa_conflicts.specs.Last.{HasLastsBy}
-use Rattle.dsa_plan.specs.Barriers.{WithBarriers}
 use Rattle.dsa_plan.specs.Settings.{tariff_of}
-use Rattle.dsa_search.proofs.Searched.{search_goes_back, found_chosen, found_least, found_good}
+use Rattle.dsa_search.proofs.Searched.{search_goes_back, lasts_of_descriptors, with_chosen, with_least, with_good}
 use Rattle.dsa_search.proofs.planning.search_with.Goals as goal
-use Rattle.dsa_search.proofs.planning.search_with.Goals.{After-drop-lasts}
+use Rattle.dsa_search.proofs.planning.search_with.Goals.{After-search_lasts}
 
-has : (c : After-drop-lasts) → HasLastsBy (WithBarriers (ConflictAt (map fields c.args.pieces.now)) c.args.barriers.now) (length c.args.pieces.now) (c.args.settings.now.greatest_batch - 1) c.deref.result.now
-has c = rw c.deref.ensures.value c.in_ok-lasts.ensures.lasts
+pub search_lasts-requires-clause-back : goal.search_lasts-requires-clause-back
+search_lasts-requires-clause-back c =
+    let fs = map fields c.args.pieces.now in
+    let g = c.args.settings.now.greatest_batch in
+    search_goes_back (ConflictAt fs) (length c.args.pieces.now) g (omega (arith, c.greatest_batch.ensures.limits.least_batch)) c.in_ok-lasts.lasts.items
+    (lasts_of_descriptors fs (length c.args.pieces.now) (c.greatest_batch.result - 1) g c.in_ok-lasts.lasts.items (length-map c.args.pieces.now fields) (omega (arith, c.greatest_batch.ensures.value)) c.in_ok-lasts.ensures)
 
-some : (c : After-drop-lasts) → 0 < c.args.settings.now.greatest_batch
-some c = omega (arith, c.in_ok-lasts.ensures.limits.least_batch)
+some : (c : After-search_lasts) → 1 < c.args.settings.now.greatest_batch
+some c = omega (arith, c.greatest_batch.ensures.limits.least_batch)
 
-pub found_from-requires-clause-back : goal.found_from-requires-clause-back
-found_from-requires-clause-back c =
-    search_goes_back (WithBarriers (ConflictAt (map fields c.args.pieces.now)) c.args.barriers.now) (length c.args.pieces.now) c.args.settings.now.greatest_batch (omega (arith, c.in_ok-lasts.ensures.limits.least_batch)) c.deref.result.now
-    (rw c.deref.ensures.value c.in_ok-lasts.ensures.lasts)
+has : (c : After-search_lasts) → HasLastsBy (ConflictAt (map fields c.args.pieces.now)) (length c.args.pieces.now) (c.args.settings.now.greatest_batch - 1) c.in_ok-lasts.lasts.items
+has c =
+    lasts_of_descriptors (map fields c.args.pieces.now) (length c.args.pieces.now) (c.greatest_batch.result - 1) c.args.settings.now.greatest_batch c.in_ok-lasts.lasts.items (length-map c.args.pieces.now fields)
+    (omega (arith, c.greatest_batch.ensures.value)) c.in_ok-lasts.ensures
 
 pub returns-clause-chosen : goal.returns-clause-chosen
 returns-clause-chosen c =
-    IfOk-weaker c.found_from.result _ _
-    (λ f found. found_chosen (WithBarriers (ConflictAt (map fields c.args.pieces.now)) c.args.barriers.now) (length c.args.pieces.now) c.args.settings.now.greatest_batch (some c) c.deref.result.now (has c)
-    (tariff_of c.args.settings.now) f.prices.items f.pairs.items f.plan found) c.found_from.ensures
+    IfOk-weaker c.search_lasts.result _ _
+    (λ f found. with_chosen (ConflictAt (map fields c.args.pieces.now)) (length c.args.pieces.now) c.args.settings.now.greatest_batch (some c) c.in_ok-lasts.lasts.items (has c)
+    c.args.barriers.now (tariff_of c.args.settings.now) f.prices.items f.pairs.items f.plan found) c.search_lasts.ensures.found
 
 pub returns-clause-least : goal.returns-clause-least
 returns-clause-least c =
-    IfOk-weaker c.found_from.result _ _
-    (λ f found. found_least (WithBarriers (ConflictAt (map fields c.args.pieces.now)) c.args.barriers.now) (length c.args.pieces.now) c.args.settings.now.greatest_batch (some c) c.deref.result.now (has c)
-    (tariff_of c.args.settings.now) f.prices.items f.pairs.items f.plan found) c.found_from.ensures
+    IfOk-weaker c.search_lasts.result _ _
+    (λ f found. with_least (ConflictAt (map fields c.args.pieces.now)) (length c.args.pieces.now) c.args.settings.now.greatest_batch (some c) c.in_ok-lasts.lasts.items (has c)
+    c.args.barriers.now (tariff_of c.args.settings.now) f.prices.items f.pairs.items f.plan found) c.search_lasts.ensures.found
 
 pub returns-clause-certificate_good : goal.returns-clause-certificate_good
 returns-clause-certificate_good c =
-    IfOk-weaker c.found_from.result _ _
-    (λ f found. found_good (WithBarriers (ConflictAt (map fields c.args.pieces.now)) c.args.barriers.now) (length c.args.pieces.now) c.args.settings.now.greatest_batch (some c) c.deref.result.now (has c)
-    (tariff_of c.args.settings.now) f.prices.items f.pairs.items f.plan found) c.found_from.ensures
+    IfOk-weaker c.search_lasts.result _ _
+    (λ f found. with_good (ConflictAt (map fields c.args.pieces.now)) (length c.args.pieces.now) c.args.settings.now.greatest_batch (some c) c.in_ok-lasts.lasts.items (has c)
+    c.args.barriers.now (tariff_of c.args.settings.now) f.prices.items f.pairs.items f.plan found) c.search_lasts.ensures.found

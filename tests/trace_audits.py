@@ -95,6 +95,18 @@ def noted():
          "entry 1 (submission 1): error: record not zero: its completion record, at 0x", "\n  and 14 more like it\n")
     end = audited("--order", "fifo", *accepting(STALE), "--", client("unseen"), "stale")
     told("the same, accepted", end, 0, "entry 1 (submission 1): accepted: record not zero")
+    # each cause for which a batch is refused has a key, so that who accepts one sees the others
+    end = audited("--stacks", 0, "--write-accept", "--", client("odd"), "lists")
+    told("the keys of refused batches", end, 0)
+    keys = end.stdout.splitlines()
+    causes = [f"batch {cause}; batch of 0" for cause in ("count", "list misaligned", "list unreadable")]
+    expect({*causes} <= {*keys}, f"the keys of refused batches are {keys}")
+    known = [key for key in keys if key != causes[0]]
+    end = audited("--stacks", 0, *accepting(*known), "--", client("odd"), "lists")
+    told("batches that are refused for their count", end, 1, "(submission 0, its descriptor): accepted: batch list unr",
+         "(submission 1, its descriptor): accepted: batch list misaligned: its list of descriptors begins at no ",
+         "(submission 2, its descriptor): error: batch count: fewer than two descriptors, or more than its ",
+         "\n  and 2 more like it\n")
 
 
 def fitting():
@@ -434,10 +446,10 @@ def nothing():
     told("an empty file of keys", audited(*accepting(), "--", client("unseen"), "right"), 0)
     told("a program as a file of keys", audited("--accept", client("unseen"), "--", "true"), 125, "is no text in UTF-8")
     told("a folder as one", audited("--accept", WORK, "--", "true"), 125, "does not audit with these options")
-    Path(WORK, "odd/seed-1").mkdir(parents=True)
+    Path(WORK, "neither/seed-1").mkdir(parents=True)
     for name, content in (("events", bytes(range(256))), ("dsa", b"neither"), ("errors", b"\0\xff"), ("stacks", b"\0")):
-        Path(WORK, f"odd/seed-1/odd.1.{name}").write_bytes(content)
-    told("recordings that are none", traced("--report", f"{WORK}/odd", env=KNOWN), 125, "has seen a part")
+        Path(WORK, f"neither/seed-1/odd.1.{name}").write_bytes(content)
+    told("recordings that are none", traced("--report", f"{WORK}/neither", env=KNOWN), 125, "has seen a part")
     told("a file to report", traced("--report", client("unseen"), env=KNOWN), 125,
          "Not a directory; --report takes the folder that --out has named")
     told("prices of a queue without a name", ran(f"{WORK}/gcc/dsa_prices", ""), 2, "the name of the queue is empty")
@@ -475,7 +487,7 @@ PARTS += [terminal, nothing, ctest]
 
 def main(words):
     parts = named(PARTS, words)
-    for part in parts if has_text() and built_all(["unseen", "ordered"]) else []:
+    for part in parts if has_text() and built_all(["unseen", "ordered", "odd"]) else []:
         part()
 
 

@@ -1,6 +1,6 @@
 /* What the library has noted while the program ran, since no recording shows it: completion records that were not zero
- * or were changed, lists of batches that were, and that each submission was done at once. Each line of NAME.errors is
- * one (bindings/package/dsa_trace.1). */
+ * or were changed, lists of batches that were, why batches were refused, and that each submission was done at once.
+ * Each line of NAME.errors is one (bindings/package/dsa_trace.1). */
 #include <errno.h>
 #include <inttypes.h>
 #include <linux/idxd.h>
@@ -14,7 +14,8 @@ enum { ENTRY = sizeof(struct dsa_hw_desc) };
 static bool kind_of(char letter, enum finding_kind *kind)
 {
     static const char letters[] = {[RECORD_NOT_ZERO] = 'Z', [RECORD_CHANGED] = 'X', [LIST_CHANGED] = 'L',
-                                   [LIST_UNREADABLE] = 'U'};
+                                   [LIST_UNREADABLE] = 'U',  [BATCH_COUNT] = 'C',
+                                   [BATCH_MISALIGNED] = 'M', [BATCH_UNREADABLE] = 'R'};
     const char *at = memchr(letters, letter, sizeof letters);
     *kind = at ? (enum finding_kind)(at - letters) : RECORD_NOT_ZERO;
     return at;

@@ -38,14 +38,28 @@ static void put_in(struct submission *s)
         order_watch(s);
 }
 
+/// The letter of the error for which a batch is refused, or 0 if its descriptor shows that, as it is recorded.
+static char error_of(uint8_t status)
+{
+    switch (status) {
+    case DSA_COMP_DESC_CNT_ERANGE: return 'C';
+    case DSA_COMP_DESCLIST_ALIGN: return 'M';
+    case DSA_COMP_BATCH_PAGE_FAULT: return 'R';
+    default: return 0;
+    }
+}
+
 /// A batch without members: its list can't be read, or the device refuses it. It is recorded with none.
 static void refuse_batch(struct submission *s, const completion *r)
 {
+    const char error = error_of(r->status);
     descriptor empty = s->entry;
     empty.desc_count = 0;
     say("batch %lu of %u descriptors at %#lx is refused with status %#x (%s)", s->number, s->entry.desc_count,
         (unsigned long)s->entry.desc_list_addr, r->status, valid_name(r->status));
     record_submission(&(struct submitted){s->number, s->queue, &empty, NULL, 0, s->origin});
+    if (error)
+        record_error(error, s->number, -1, s->entry.desc_list_addr);
     s->is_batch = false;
     put_in(s);
     order_complete(s, r);

@@ -153,8 +153,11 @@ bool stale_end(const struct stale *s, bool seeks_waits, bool is_json, FILE *to);
 void stale_forget(struct stale *s);
 
 /* ---- findings.c: findings of our own, beside those of dsa_text ---- */
-/* The first four are errors, and have an address. */
-enum finding_kind { RECORD_NOT_ZERO, RECORD_CHANGED, LIST_CHANGED, LIST_UNREADABLE, NESTED_BATCH, OTHER_OWNER };
+/* Those before NESTED_BATCH are errors, and have an address. */
+enum finding_kind {
+    RECORD_NOT_ZERO, RECORD_CHANGED, LIST_CHANGED, LIST_UNREADABLE, BATCH_COUNT, BATCH_MISALIGNED, BATCH_UNREADABLE,
+    NESTED_BATCH, OTHER_OWNER
+};
 /* `member` is -1 for the descriptor that was submitted, `members` is -1 if that is no batch. */
 struct finding {
     enum finding_kind kind;

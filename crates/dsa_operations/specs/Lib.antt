@@ -1,0 +1,12 @@
+pub mod Fields
+pub mod Checksums
+pub mod Operands
+pub mod Data
+pub mod Profile
+pub mod ProfileProps
+pub mod Places
+pub mod Spelling
+pub mod Faults
+pub mod Operations
+pub mod Laws
+pub mod Samples

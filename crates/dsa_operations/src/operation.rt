@@ -1,0 +1,67 @@
+//! Operations of a list.
+
+ghost use Rattle.std.specs.Prelude.{◌≡◌, ◌↔◌, IfOk, Ok, Err};
+ghost use Rattle.dsa_descriptor.specs.declared.fault.FieldFault.{FieldFault};
+
+use crate::checksum::Checksum;
+use crate::reading::{checksum_at, first_fault};
+use dsa_descriptor::{Descriptor, FieldFault};
+use dsa_ranges::{Touched, touched};
+
+/// An operation that a list may have, with its completion record and its owner.
+#[derive(Clone, Copy)]
+pub enum Operation {
+    /// One that is no checksum.
+    Descriptor(Descriptor),
+    /// A checksum, with a copy or without.
+    Checksum(Checksum),
+}
+
+impl Operation {
+    ghost use Rattle.dsa_operations.specs.declared.operation.Operation.{Operation};
+    ghost use Rattle.dsa_operations.specs.Faults.{IsFirstOperationFault};
+    ghost use Rattle.dsa_operations.specs.Operations.{reads_of, spelling_of, writes_of};
+
+    /// The operation that the 64 bytes spell.
+    ///
+    /// # Errors
+    /// The first fault of the bytes, in the order of [`FieldFault`]'s numbers.
+    pub fn read(bytes: &[u8; 64]) -> Result<Operation, FieldFault>
+        ensures found { IfOk result (λ operation. bytes.now ≡ spelling_of operation) }
+        ensures only { (operation : Operation) →
+            bytes.now ≡ spelling_of operation → result ≡ Ok operation }
+        ensures fault { (f : FieldFault) → (result ≡ Err f) ↔ IsFirstOperationFault bytes.now f }
+    {
+        let Some(op) = checksum_at(bytes) else {
+            return match Descriptor::read(bytes) {
+                Ok(descriptor) => Ok(Operation::Descriptor(descriptor)),
+                Err(fault) => Err(fault),
+            };
+        };
+        if let Some(fault) = first_fault(bytes, &op) {
+            return Err(fault);
+        }
+        Ok(Operation::Checksum(Checksum::spelled(bytes, op)))
+    }
+
+    /// The 64 bytes that spell the operation; there is one spelling.
+    pub fn write(&self) -> [u8; 64]
+        ensures { result ≡ spelling_of self.now }
+    {
+        match self {
+            Operation::Descriptor(descriptor) => descriptor.write(),
+            Operation::Checksum(checksum) => checksum.write(),
+        }
+    }
+
+    /// What the operation reads and writes, its completion record included.
+    pub fn touched(&self) -> Touched
+        ensures reads { result.reads.items ≡ reads_of self.now }
+        ensures writes { result.writes.items ≡ writes_of self.now }
+    {
+        match self {
+            Operation::Descriptor(descriptor) => touched(descriptor),
+            Operation::Checksum(checksum) => checksum.touched(),
+        }
+    }
+}

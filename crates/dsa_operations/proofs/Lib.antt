@@ -6,4 +6,6 @@ pub mod Same
 pub mod Answered
 pub mod Written
 pub mod Apart
+pub mod Windows
+pub mod Conflicting
 pub mod Listed

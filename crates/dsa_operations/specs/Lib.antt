@@ -10,3 +10,4 @@ pub mod Faults
 pub mod Operations
 pub mod Laws
 pub mod Samples
+pub mod Members

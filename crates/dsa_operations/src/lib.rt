@@ -7,6 +7,7 @@ mod flags;
 mod laws;
 mod operation;
 mod places;
+mod planning;
 mod reading;
 
 pub use checksum::Checksum;
@@ -15,3 +16,4 @@ pub use laws::{
     checksums_are_listed, checksums_are_spelt, descriptors_conflict_alike, one_spelling,
 };
 pub use operation::Operation;
+pub use planning::search_operations;

@@ -347,12 +347,15 @@ def audits():
 def found_text():
     """Where dsa_text is found, and what its failures come to."""
     told("an audit that fails", audited("--", client("ordered"), "waited", env={"DSA_TEXT": "/bin/false"}), 1)
-    for dies in ("exit 2", "kill -9 $$"):
+    for dies, said in (
+        ("exit 2", "does not audit with these options\n"),
+        ("kill -9 $$", "does not run here: it ends with status 137, before the program is begun\n"),
+    ):
         Path(WORK, "dies").write_text(f"#!/bin/sh\n{dies}\n")
         Path(WORK, "dies").chmod(0o755)
         end = audited("--seeds", 3, "--", client("ordered"), "waited", env={"DSA_TEXT": f"{WORK}/dies"})
-        told(f"dsa_text that ends by {dies}", end, 125, f"{WORK}/dies does not audit ")
-        expect(end.stderr.count("does not audit") == 1, f"after an audit that fails there are others: {end.stderr}")
+        told(f"dsa_text that ends by {dies}", end, 125, f"{WORK}/dies {said}")
+        expect(end.stderr.count("dies does not") == 1, f"after an audit that fails there are others: {end.stderr}")
     end = audited("--seeds", 3, "--", client("ordered"), "waited", env={"DSA_TEXT": "/bin/false"})
     told("audits of several runs that fail", end, 1, "3 of 3")
     told("no such program", audited("--", "/bin/true", env={"DSA_TEXT": "/nowhere"}), 125, "DSA_TEXT names /nowhere")

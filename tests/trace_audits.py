@@ -86,6 +86,10 @@ def reports():
     end = audited("--seeds", 3, "--", client("unseen"), "right", env={"DSA_TEXT": f"{WORK}/denies"})
     told("errors without keys", end, 1, "the audits of 3 of 3 runs find errors")
     expect(end.stdout == "seed 1:\ndenied\n", f"of errors without keys is said {end.stdout}")
+    # what is preloaded for the test is not in dsa_text
+    Path(WORK, "denies").write_text(f'#!/bin/sh\n[ -z "$LD_PRELOAD" ] || kill -ABRT $$\nexec {TEXT} "$@"\n')
+    env = {"DSA_TEXT": f"{WORK}/denies", "LD_PRELOAD": "libm.so.6"}
+    told("a test with a library of its own", audited("--", client("unseen"), "right", env=env), 0)
 
 
 def noted():
@@ -233,6 +237,9 @@ def in_junit():
     removing = f"{client('unseen')} right; rm $DSA_TRACE_OUT/*"
     found = cases("--audit", "--", "sh", "-c", removing, status=125)
     expect([it[1][:2] for it in found] == [("error", "the audit has seen a part of the run")], f"the cases are {found}")
+    found = cases("--audit", "--", "sh", "-c", f"{removing}; exit 3", status=125)
+    both = "the program ends with status 3, and the audit has seen a part of the run"
+    expect([it[1][:2] for it in found] == [("error", both)], f"the cases are {found}")
     found = cases("--timeout", 1, "--", "sleep", 100, status=124)
     expect(found == [("sleep, seed 1", ("error", "the program was ended by --timeout", ""))], f"the cases are {found}")
     other = FENCE.replace("8192", "9")
@@ -290,6 +297,9 @@ def over_earlier():
     traced("--out", folder, "--seeds", 3, *words)
     end = traced("--report", folder, env=KNOWN)
     expect("earlier commands" not in end.stderr, f"runs of one command: {end.stderr}")
+    Path(folder, "runs.txt").write_text("my notes\n")
+    told("a list of others", traced("--out", folder, *words), 125, "runs.txt is not of dsa_trace")
+    expect(Path(folder, "runs.txt").read_text() == "my notes\n", "runs.txt of others is overwritten")
 
 
 def kept():

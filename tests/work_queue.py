@@ -297,10 +297,11 @@ def opening():
               f"there is no device: the driver idxd has made no {DEVICES}; dsa_trace has one in software\n", 2)
 
 
+OF_LOST = "a list that this one has to wait for is lost; use other buffers\n"
 HELD = "the device has not answered what was submitted of this list before; use another list\n"
 STOPPED = {
-    "in_flight": "a list that this one has to wait for is lost; use other buffers\n" * 2 + HELD + DONE + DONE
-    + FULL.format(QUEUES[0], 10000),
+    "in_flight": f"{OF_LOST}a list that this one comes after has not succeeded; that one says why, and what to do\n"
+    + OF_LOST + HELD + DONE + DONE + FULL.format(QUEUES[0], 10000),
     "after": DONE,
     "lost": SILENT.format(10000, "enabled") + HELD + DONE + SILENT.format(10000, "enabled"),
     "disabled": FULL.format(QUEUES[0], 10000) + SILENT.format(10000, "disabled"),

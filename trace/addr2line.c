@@ -129,6 +129,7 @@ static void become(char **words, int to)
     dup2(none, STDIN_FILENO);
     dup2(to, STDOUT_FILENO);
     dup2(none, STDERR_FILENO);
+    unsetenv("LD_PRELOAD"); /* that is for the test */
     execv(words[0], words);
     _exit(NOT_FOUND);
 }

@@ -65,6 +65,7 @@ static const char *inherited(char room[32], FILE *file)
 }
 
 /// In a child: becomes dsa_text, for one recording in this form, NULL for text; without a recording for an empty one.
+/// What is preloaded is for the test: a sanitizer may not run in dsa_text, too.
 static void become(const char *dsa_text, const struct audit_options *o, const char *form, const struct gathered *g)
 {
     char events[32], recording[32], accepted[32];
@@ -87,10 +88,12 @@ static void become(const char *dsa_text, const struct audit_options *o, const ch
         *words++ = form;
     *words++ = g ? inherited(recording, g->recording) : "-";
     *words = NULL;
+    unsetenv("LD_PRELOAD");
     execv(dsa_text, (char *const *)all);
 }
 
-/// What dsa_text says of a recording: 0, 1 if there are errors, 2 if it can't read it or takes no such options.
+/// What dsa_text says of a recording: 0, 1 if there are errors, 2 if it can't read it or takes no such options; more if
+/// it could not say it.
 int audit_text(const char *dsa_text, const struct audit_options *o, const char *form, const struct gathered *g,
                FILE *to)
 {
@@ -108,5 +111,5 @@ int audit_text(const char *dsa_text, const struct audit_options *o, const char *
     }
     while (waitpid(child, &status, 0) < 0 && errno == EINTR)
         ;
-    return WIFEXITED(status) ? WEXITSTATUS(status) : 2;
+    return WIFEXITED(status) ? WEXITSTATUS(status) : 128 + WTERMSIG(status);
 }

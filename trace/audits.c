@@ -43,10 +43,13 @@ bool audits_begin(struct audits *a, const struct options *o)
     FILE *unused = in_memory("an empty report");
     const int status = audit_text(a->dsa_text, &a->options, NULL, NULL, unused);
     fclose(unused);
-    if (status > 1) {
+    if (status == 2)
         fprintf(stderr, "dsa_trace: %s does not audit with these options\n", a->dsa_text);
+    else if (status > 1)
+        fprintf(stderr, "dsa_trace: %s does not run here: it ends with status %d, before the program is begun\n",
+                a->dsa_text, status);
+    if (status > 1)
         return false;
-    }
     stale_read(&a->stale, &a->accepted);
     a->options.accepted = a->stale.plain;
     return true;

@@ -5,6 +5,8 @@
 
 #include "launcher.h"
 
+enum { ROOM = 96 };
+
 static void put(FILE *to, const char *text)
 {
     for (; *text; text++)
@@ -29,24 +31,26 @@ void junit_begin(struct junit *j, const char *path, const char *program, bool is
 }
 
 /// What is wrong with a run, if anything is. `is_broken`: dsa_trace could not judge it.
-static const char *fault_of(const struct run *run, enum verdict verdict, char room[64], bool *is_broken)
+static const char *fault_of(const struct run *run, enum verdict verdict, char room[ROOM], bool *is_broken)
 {
     *is_broken = run->is_timed_out || verdict == PART;
     if (run->is_timed_out)
         return "the program was ended by --timeout";
+    if (verdict == PART && run->status)
+        snprintf(room, ROOM, "the program ends with status %d, and the audit has seen a part of the run", run->status);
     if (verdict == PART)
-        return "the audit has seen a part of the run";
+        return run->status ? room : "the audit has seen a part of the run";
     if (verdict == ERRORS)
         return "the audit finds errors";
     if (run->status)
-        snprintf(room, 64, "the program ends with status %d", run->status);
+        snprintf(room, ROOM, "the program ends with status %d", run->status);
     return run->status ? room : verdict == EMPTY ? "nothing was submitted" : NULL;
 }
 
 /// A run. The report of its audit is NULL if there is none.
 void junit_add(struct junit *j, const struct run *run, enum verdict verdict, FILE *report)
 {
-    char room[64];
+    char room[ROOM];
     bool is_broken;
     const char *fault = fault_of(run, verdict, room, &is_broken), *kind = is_broken ? "error" : "failure";
     fputs("  <testcase classname=\"dsa_trace\" name=\"", j->to);

@@ -259,6 +259,8 @@ void junit_end(struct junit *j);
 /* ---- report.c: audits of runs that are kept ---- */
 /* Audits each run of the folder; false, after a sentence, if it has none. */
 bool report_runs(const struct options *o, struct audits *a, struct junit *j);
+/* Ends dsa_trace, after a sentence, if the folder has a file of others with the name of the list of runs. */
+void report_claim(const char *folder);
 /* Notes a run in the folder of --out, the first one of a command in the place of those of earlier commands. */
 void report_note(const struct options *o, uint64_t seed, bool is_first);
 

@@ -103,11 +103,15 @@ int main(int argc, char **argv)
         return FAILED;
     if (o.junit)
         junit_begin(&j, o.junit, o.report ? o.report : o.program[0], a.is_unproved);
+    if (o.out)
+        report_claim(o.out);
     background_begin();
     if (o.report && !report_runs(&o, &a, &j))
         return FAILED;
     const int status = o.report ? 0 : run_all(&o, own.folder, &a, &j);
     const int missing = o.audits ? audits_end(&a, &o, &j, status) : 0;
+    if (missing && status && status != TIMED_OUT && o.seeds == 1)
+        fprintf(stderr, "dsa_trace: the program itself ends with status %d\n", status);
     if (o.junit)
         junit_end(&j);
     return missing && status != TIMED_OUT ? missing : status;

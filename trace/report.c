@@ -19,6 +19,22 @@ static void report_run(const struct run *run, bool is_one_of_many, struct audits
 
 static const char noted[] = "runs.txt";
 
+void report_claim(const char *folder)
+{
+    char path[PATH_MAX], line[64];
+    bool is_ours = true;
+    FILE *from = fopen(joined(path, folder, noted), "r");
+    while (from && is_ours && fgets(line, sizeof line, from))
+        is_ours = strncmp(line, "seed-", strlen("seed-")) == 0;
+    if (from)
+        fclose(from);
+    if (is_ours)
+        return;
+    fprintf(stderr, "dsa_trace: %s is not of dsa_trace, which writes the names of runs there: name another folder\n",
+            path);
+    exit(FAILED);
+}
+
 void report_note(const struct options *o, uint64_t seed, bool is_first)
 {
     char path[PATH_MAX];

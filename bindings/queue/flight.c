@@ -66,7 +66,7 @@ static bool is_left_out(struct dsa_list *list)
         must(dsa_track_waits(queue->tracker, queue->words, list->slot, &waits, &refusal));
     if (!(waits & queue->lost) && !list->is_after_failed)
         return false;
-    list->reason = waits & queue->lost ? AFTER_LOST : AFTER_FAILED;
+    list->reason = list->is_after_failed ? AFTER_FAILED : AFTER_LOST;
     return true;
 }
 

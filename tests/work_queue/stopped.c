@@ -187,6 +187,7 @@ static void in_flight(void)
     EXPECT(dsa_list_run(list) == DSA_LIST_LOST); /* its start is, and nobody was told so far */
     printf("%s\n", dsa_list_why(others[0], why));
     EXPECT(dsa_list_wait(others[1]) == DSA_LIST_LEFT_OUT && c[PAGE] == 0);
+    printf("%s\n", dsa_list_why(others[1], why));
     EXPECT(dsa_list_wait(others[2]) == DSA_LIST_DONE && c[2 * PAGE] == 7);
     EXPECT(dsa_list_wait(others[3]) == DSA_LIST_DONE);
     ends(others[0], DSA_LIST_LEFT_OUT);

@@ -59,7 +59,7 @@ pub struct Fault {
     pub is_write: bool,
 }
 
-/// Which list of a queue it is: [`Queue::poll`] names lists so.
+/// Which list of a queue it is: [`Queue::poll`](super::Queue::poll) names lists so.
 #[derive(Clone, Copy, Debug, PartialEq, Eq, Hash)]
 pub struct ListId(usize);
 

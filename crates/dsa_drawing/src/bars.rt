@@ -1,10 +1,8 @@
 //! The bars of fences, and the words below them.
 
 use crate::layout::{Bar, BarKind, Layout};
-use crate::places::{MOST_TURNED, Places};
-use crate::shapes::{Extent, close, open, place, push_box, push_line, push_text, push_turned};
-use crate::slots::Slot;
-use crate::texts::{SIZE, cut, letters_in, wrapped};
+use crate::places::{MOST_TURNED, Placed, Places};
+use crate::shapes::{Extent, close, open, place, push_box, push_line, push_turned, push_wrapped};
 use std::alloc::{AllocError, Global};
 
 /// What is below a barrier.
@@ -36,7 +34,6 @@ const BESIDE: usize = 6;
 
 /// Writes a missing wait as a dotted line before a column that begins there, which may have a fence too.
 fn push_wait(
-    alloc: Global,
     svg: &mut String,
     places: &Places,
     is_error: bool,
@@ -49,12 +46,11 @@ fn push_wait(
     } else {
         "stroke=\"#999\" stroke-width=\"3\" stroke-dasharray=\"2 3\""
     };
-    push_line(alloc, svg, place(x, places.names), place(x, foot), paint)
+    push_line(svg, place(x, places.names), place(x, foot), paint)
 }
 
 /// Writes the bar of a fence before a column that begins there.
 fn push_shape(
-    alloc: Global,
     svg: &mut String,
     places: &Places,
     kind: BarKind,
@@ -66,19 +62,19 @@ fn push_shape(
         height: places.bottom.saturating_add(4).saturating_sub(top),
     };
     match kind {
-        BarKind::Needed => push_box(alloc, svg, place(x, top), extent, "fill=\"black\""),
-        BarKind::Kept => push_box(alloc, svg, place(x, top), extent, "fill=\"#999\""),
-        BarKind::Needless => push_box(alloc, svg, place(x, top), extent, HOLLOW),
+        BarKind::Needed => push_box(svg, place(x, top), extent, "fill=\"black\""),
+        BarKind::Kept => push_box(svg, place(x, top), extent, "fill=\"#999\""),
+        BarKind::Needless => push_box(svg, place(x, top), extent, HOLLOW),
         BarKind::NoEffect { is_error } => {
             let paint = if is_error { HOLLOW_RED } else { HOLLOW };
-            push_box(alloc, svg, place(x, top), extent, paint)
+            push_box(svg, place(x, top), extent, paint)
         }
         BarKind::Missing => {
             let foot = places.bottom.saturating_add(4);
             let paint = "stroke=\"#c00\" stroke-width=\"4\" stroke-dasharray=\"6 4\"";
-            push_line(alloc, svg, place(left, top), place(left, foot), paint)
+            push_line(svg, place(left, top), place(left, foot), paint)
         }
-        BarKind::MissingWait { is_error } => push_wait(alloc, svg, places, is_error, left),
+        BarKind::MissingWait { is_error } => push_wait(svg, places, is_error, left),
     }
 }
 
@@ -93,15 +89,14 @@ fn push_words(
     let foot = places.bottom;
     if places.is_narrow {
         let at = place(left.saturating_add(4), foot.saturating_add(9));
-        return push_turned(alloc, svg, at, "end", &cut(alloc, words, MOST_TURNED)?);
+        return push_turned(svg, at, "end", words, MOST_TURNED);
     }
-    let width = places.width.saturating_sub(4);
-    let mut y = foot.saturating_add(16);
+    let (at, width) = (
+        place(left, foot.saturating_add(16)),
+        places.width.saturating_sub(4),
+    );
     svg.push_str("<g text-anchor=\"middle\">")?;
-    for line in &wrapped(alloc, words, letters_in(width, SIZE))? {
-        push_text(alloc, svg, place(left, y), width, line)?;
-        y = y.saturating_add(13);
-    }
+    push_wrapped(alloc, svg, at, width, words)?;
     svg.push_str("</g>")
 }
 
@@ -114,8 +109,8 @@ pub(crate) fn push_bars(
 ) -> Result<(), AllocError> {
     for bar in bars {
         if let Some(left) = places.left_of(bar.column) {
-            open(alloc, svg, class_of(bar.kind), &bar.title)?;
-            push_shape(alloc, svg, places, bar.kind, left)?;
+            open(svg, class_of(bar.kind), &bar.title)?;
+            push_shape(svg, places, bar.kind, left)?;
             push_words(alloc, svg, places, left, &bar.words)?;
             close(svg)?;
         }
@@ -133,8 +128,8 @@ fn push_barrier(
     let x = left.saturating_sub(places.gap / 2);
     let foot = places.bottom.saturating_add(4);
     let paint = "stroke=\"black\" stroke-width=\"2\" stroke-dasharray=\"2 3\"";
-    open(alloc, svg, "barrier", BARRIER_TITLE)?;
-    push_line(alloc, svg, place(x, places.names), place(x, foot), paint)?;
+    open(svg, "barrier", BARRIER_TITLE)?;
+    push_line(svg, place(x, places.names), place(x, foot), paint)?;
     push_words(alloc, svg, places, x, BARRIER)?;
     close(svg)
 }
@@ -144,11 +139,10 @@ pub(crate) fn push_barriers(
     alloc: Global,
     svg: &mut String,
     layout: &Layout<'_>,
-    slots: &[Slot],
     places: &Places,
 ) -> Result<(), AllocError> {
     let mut before = 0;
-    for (slot, left) in slots.iter().zip(places.lefts.iter()) {
+    for Placed { slot, left } in &places.columns {
         if slot.group != before
             && let Some(group) = layout.groups.get(slot.group)
             && group.has_barrier

@@ -7,7 +7,7 @@ use crate::bars::{push_barriers, push_bars};
 use crate::grid::{Grid, grid_of};
 use crate::heads::{push_columns, push_heads};
 use crate::layout::{Bar, Column, Layout};
-use crate::places::{Places, places_of};
+use crate::places::{Placed, Places, places_of};
 use crate::rows::{push_conflicts, push_marks, push_rows};
 use crate::shapes::{Extent, Spot, place, push_box, push_head, push_text};
 use crate::slots::{Slot, slots_of};
@@ -28,7 +28,6 @@ fn is_unseen(column: &Column) -> bool {
 
 /// Writes the ground of a column from here on.
 fn push_ground(
-    alloc: Global,
     svg: &mut String,
     places: &Places,
     from: Spot,
@@ -38,29 +37,25 @@ fn push_ground(
         width: places.width,
         height: places.bottom.saturating_sub(from.y),
     };
-    push_box(alloc, svg, from, extent, paint)?;
+    push_box(svg, from, extent, paint)?;
     svg.push_str("\n")
 }
 
 /// Writes the grey of a column of each second epoch, and the hatching of one that is not looked at.
 fn push_grounds_of(
-    alloc: Global,
     svg: &mut String,
     layout: &Layout<'_>,
     places: &Places,
-    slot: &Slot,
-    left: usize,
+    column: &Placed,
     is_second: bool,
 ) -> Result<(), AllocError> {
     if is_second {
         let paint = "class=\"epoch\" fill=\"#eee\"";
-        push_ground(alloc, svg, places, place(left, places.names), paint)?;
+        push_ground(svg, places, place(column.left, places.names), paint)?;
     }
-    if let Some(operation) = slot.operation()
-        && layout.columns.get(operation).is_some_and(is_unseen)
-    {
+    if column.slot.column(layout).is_some_and(is_unseen) {
         let paint = "class=\"unseen\" fill=\"url(#hatch)\"";
-        push_ground(alloc, svg, places, place(left, places.top), paint)?;
+        push_ground(svg, places, place(column.left, places.top), paint)?;
     }
     Ok(())
 }
@@ -81,32 +76,25 @@ fn epoch_at(bars: &[Bar], column: usize, is_second: bool) -> (&[Bar], bool) {
 }
 
 /// Writes the grounds of the columns: epochs are white and grey by turns.
-fn push_grounds(
-    alloc: Global,
-    svg: &mut String,
-    layout: &Layout<'_>,
-    slots: &[Slot],
-    places: &Places,
-) -> Result<(), AllocError> {
+fn push_grounds(svg: &mut String, layout: &Layout<'_>, places: &Places) -> Result<(), AllocError> {
     let mut bars = layout.bars.as_slice();
     let (mut group, mut is_second) = (usize::MAX, false);
-    for (slot, left) in slots.iter().zip(places.lefts.iter()) {
-        (bars, is_second) = epoch_at(bars, slot.first, is_second);
-        is_second = slot.group == group && is_second;
-        group = slot.group;
-        push_grounds_of(alloc, svg, layout, places, slot, *left, is_second)?;
+    for column in &places.columns {
+        (bars, is_second) = epoch_at(bars, column.slot.first, is_second);
+        is_second = column.slot.group == group && is_second;
+        group = column.slot.group;
+        push_grounds_of(svg, layout, places, column, is_second)?;
     }
     Ok(())
 }
 
-/// How many operations and ranges of addresses are folded, if some are.
-fn folded_text(
-    alloc: Global,
+/// Writes how many operations and ranges of addresses are folded, if some are.
+fn push_folded(
+    text: &mut String,
     layout: &Layout<'_>,
     slots: &[Slot],
     grid: &Grid,
-) -> Result<String, AllocError> {
-    let mut text = String::new(alloc);
+) -> Result<(), AllocError> {
     let shown = slots
         .iter()
         .filter(|slot| slot.operation().is_some())
@@ -114,20 +102,19 @@ fn folded_text(
     let operations = layout.columns.len();
     if shown < operations {
         let folded = operations.saturating_sub(shown);
-        text.push_str(&format!(in alloc; "folded: {folded} of {operations} operations")?)?;
+        write!(text, "folded: {folded} of {operations} operations")?;
     }
     let (rows, ranges) = (grid.single_rows(), grid.ranges());
     if rows < ranges {
         let folded = ranges.saturating_sub(rows);
         text.push_str(if text.is_empty() { "folded: " } else { ", " })?;
-        text.push_str(&format!(in alloc; "{folded} of {ranges} buffers")?)?;
+        write!(text, "{folded} of {ranges} buffers")?;
     }
-    Ok(text)
+    Ok(())
 }
 
 /// Writes the lines at the end.
 fn push_notes(
-    alloc: Global,
     svg: &mut String,
     layout: &Layout<'_>,
     places: &Places,
@@ -137,15 +124,65 @@ fn push_notes(
     let mut y = places.notes;
     let width = width.saturating_sub(16);
     for note in &layout.notes {
-        push_text(alloc, svg, place(8, y), width, note)?;
+        push_text(svg, place(8, y), width, note)?;
         svg.push_str("\n")?;
         y = y.saturating_add(14);
     }
     if folded.is_empty() {
         return Ok(());
     }
-    push_text(alloc, svg, place(8, y), width, folded)?;
+    push_text(svg, place(8, y), width, folded)?;
     svg.push_str("\n")
+}
+
+/// What is drawn, and where.
+#[derive(Clone, Copy)]
+struct Picture<'a> {
+    layout: &'a Layout<'a>,
+    grid: &'a Grid,
+    places: &'a Places,
+    /// How many operations and ranges of addresses are folded, if some are.
+    folded: &'a str,
+}
+
+impl Picture<'_> {
+    /// How wide and how high it is.
+    fn extent(&self) -> Extent {
+        let notes = self.layout.notes.len();
+        let lines = notes.saturating_add(if self.folded.is_empty() { 0 } else { 1 });
+        Extent {
+            width: self.places.right.saturating_add(10).max(LEAST_WIDTH),
+            height: self.places.notes.saturating_add(lines.saturating_mul(14)),
+        }
+    }
+
+    /// Writes the grounds of its columns, and what is above them.
+    fn push_columns(&self, alloc: Global, svg: &mut String) -> Result<(), AllocError> {
+        if self.layout.columns.iter().any(is_unseen) {
+            svg.push_str(HATCH)?;
+        }
+        push_grounds(svg, self.layout, self.places)?;
+        push_heads(alloc, svg, self.layout, self.places)?;
+        push_columns(alloc, svg, self.layout, self.places)
+    }
+
+    /// Writes its rows, and what is in its columns.
+    fn push_rows(&self, alloc: Global, svg: &mut String) -> Result<(), AllocError> {
+        push_rows(alloc, svg, self.layout.buffers, self.grid, self.places)?;
+        push_barriers(alloc, svg, self.layout, self.places)?;
+        push_bars(alloc, svg, &self.layout.bars, self.places)?;
+        push_conflicts(svg, self.layout, self.grid, self.places)?;
+        push_marks(alloc, svg, self.grid, self.places)
+    }
+
+    /// Writes all of it after its first word.
+    fn push(&self, alloc: Global, svg: &mut String) -> Result<(), AllocError> {
+        let extent = self.extent();
+        push_head(svg, extent, &self.layout.title)?;
+        self.push_columns(alloc, svg)?;
+        self.push_rows(alloc, svg)?;
+        push_notes(svg, self.layout, self.places, self.folded, extent.width)
+    }
 }
 
 /// What is in a picture after its first word.
@@ -153,29 +190,16 @@ fn body(alloc: Global, layout: &Layout<'_>) -> Result<String, AllocError> {
     let slots = slots_of(alloc, layout)?;
     let grid = grid_of(alloc, layout, &slots)?;
     let places = places_of(alloc, layout, &slots, &grid)?;
-    let folded = folded_text(alloc, layout, &slots, &grid)?;
-    let lines = layout
-        .notes
-        .len()
-        .saturating_add(if folded.is_empty() { 0 } else { 1 });
-    let extent = Extent {
-        width: places.right.saturating_add(10).max(LEAST_WIDTH),
-        height: places.notes.saturating_add(lines.saturating_mul(14)),
+    let mut folded = String::new(alloc);
+    push_folded(&mut folded, layout, &slots, &grid)?;
+    let picture = Picture {
+        layout,
+        grid: &grid,
+        places: &places,
+        folded: &folded,
     };
     let mut svg = String::new(alloc);
-    push_head(alloc, &mut svg, extent, &layout.title)?;
-    if layout.columns.iter().any(is_unseen) {
-        svg.push_str(HATCH)?;
-    }
-    push_grounds(alloc, &mut svg, layout, &slots, &places)?;
-    push_heads(alloc, &mut svg, layout, &slots, &places)?;
-    push_columns(alloc, &mut svg, layout, &slots, &places)?;
-    push_rows(alloc, &mut svg, layout.buffers, &grid, &places)?;
-    push_barriers(alloc, &mut svg, layout, &slots, &places)?;
-    push_bars(alloc, &mut svg, &layout.bars, &places)?;
-    push_conflicts(alloc, &mut svg, layout, &grid, &places)?;
-    push_marks(alloc, &mut svg, &grid, &places)?;
-    push_notes(alloc, &mut svg, layout, &places, &folded, extent.width)?;
+    picture.push(alloc, &mut svg)?;
     Ok(svg)
 }
 

@@ -139,22 +139,20 @@ fn written(column: &Column) -> &[Span] {
     }
 }
 
+/// Adds what an operation does to each of these spans.
+fn push_spans(items: &mut Vec<Item>, spans: &[Span], what: What) -> Result<(), AllocError> {
+    for span in spans {
+        push_item(items, *span, what)?;
+    }
+    Ok(())
+}
+
 /// Adds the data that an operation reads and writes.
 fn push_data(items: &mut Vec<Item>, column: &Column, number: usize) -> Result<(), AllocError> {
     if let Some(touched) = &column.touched {
-        for span in touched.reads.as_slice() {
-            push_item(items, *span, What::Reads(number))?;
-        }
+        push_spans(items, &touched.reads, What::Reads(number))?;
     }
-    push_written(items, written(column), number)
-}
-
-/// Adds the data that an operation writes.
-fn push_written(items: &mut Vec<Item>, spans: &[Span], number: usize) -> Result<(), AllocError> {
-    for span in spans {
-        push_item(items, *span, What::Writes(number))?;
-    }
-    Ok(())
+    push_spans(items, written(column), What::Writes(number))
 }
 
 /// Spans that meet or touch as one, in order.
@@ -177,6 +175,21 @@ fn extend(last: &mut Span, span: Span) {
     last.len = u64::try_from(len).unwrap_or(u64::MAX);
 }
 
+/// Adds all spans that these pieces read and write.
+fn push_touched(
+    reads: &mut Vec<Span>,
+    writes: &mut Vec<Span>,
+    pieces: &[Column],
+) -> Result<(), AllocError> {
+    for piece in pieces {
+        if let Some(touched) = &piece.touched {
+            reads.extend_from_slice(&touched.reads)?;
+            writes.extend_from_slice(&touched.writes)?;
+        }
+    }
+    Ok(())
+}
+
 /// Adds all that the pieces of an operation read and write, with their completion records, as one.
 fn push_pieces(
     alloc: Global,
@@ -185,35 +198,26 @@ fn push_pieces(
     number: usize,
 ) -> Result<(), AllocError> {
     let (mut reads, mut writes) = (Vec::new(alloc), Vec::new(alloc));
-    for piece in pieces {
-        if let Some(touched) = &piece.touched {
-            reads.extend_from_slice(&touched.reads)?;
-            writes.extend_from_slice(&touched.writes)?;
-        }
-    }
-    for span in &joined(alloc, reads)? {
-        push_item(items, *span, What::Reads(number))?;
-    }
-    push_written(items, &joined(alloc, writes)?, number)
+    push_touched(&mut reads, &mut writes, pieces)?;
+    push_spans(items, &joined(alloc, reads)?, What::Reads(number))?;
+    push_spans(items, &joined(alloc, writes)?, What::Writes(number))
 }
 
 /// Adds what the operations in a column read and write, unless several are folded in it.
 fn push_slot(
     alloc: Global,
     items: &mut Vec<Item>,
-    columns: &[Column],
+    layout: &Layout<'_>,
     slot: &Slot,
 ) -> Result<(), AllocError> {
     if slot.split().is_some() {
+        let columns = &layout.columns;
         let (_, rest) = columns.split_at(slot.first.min(columns.len()));
         let (pieces, _) = rest.split_at(slot.count.min(rest.len()));
         return push_pieces(alloc, items, pieces, slot.first);
     }
-    match slot.operation() {
-        Some(operation) => match columns.get(operation) {
-            Some(column) => push_data(items, column, operation),
-            None => Ok(()),
-        },
+    match slot.column(layout) {
+        Some(column) => push_data(items, column, slot.first),
         None => Ok(()),
     }
 }
@@ -290,7 +294,7 @@ fn push_names(items: &mut Vec<Item>, buffers: &[Buffer]) -> Result<(), AllocErro
 fn items_of(alloc: Global, layout: &Layout<'_>, slots: &[Slot]) -> Result<Vec<Item>, AllocError> {
     let mut items = Vec::new(alloc);
     for slot in slots {
-        push_slot(alloc, &mut items, &layout.columns, slot)?;
+        push_slot(alloc, &mut items, layout, slot)?;
     }
     let shown = shown_in(alloc, slots, layout.columns.len())?;
     push_conflicts(&mut items, layout, &shown)?;
@@ -395,6 +399,31 @@ impl Grid {
             before = row.name;
         }
     }
+
+    /// Moves what operations do to the rows that theirs are in now.
+    fn move_marks(&mut self, places: &[usize], rows: &[Row]) {
+        for mark in self.marks.iter_mut() {
+            mark.row = places.get(mark.row).copied().unwrap_or(0);
+            let is_single = rows.get(mark.row).is_some_and(|it| it.ranges == 1);
+            mark.goes_on = mark.goes_on && is_single;
+        }
+    }
+
+    /// Moves the conflicts to the rows that theirs are in now.
+    fn move_conflicts(&mut self, places: &[usize]) {
+        for (row, _bar) in self.conflicts.iter_mut() {
+            *row = places.get(*row).copied().unwrap_or(0);
+        }
+    }
+
+    /// Folds the rows that have no conflict.
+    fn fold(&mut self, alloc: Global) -> Result<(), AllocError> {
+        let (places, rows) = folded(alloc, &self.rows)?;
+        self.move_marks(&places, &rows);
+        self.move_conflicts(&places);
+        self.rows = rows;
+        Ok(())
+    }
 }
 
 /// Of each row the row that it is in, if those between the conflicts are folded; and these rows.
@@ -432,50 +461,6 @@ fn merged(alloc: Global, marks: &[Mark]) -> Result<Vec<Mark>, AllocError> {
         }
     }
     Ok(merged)
-}
-
-/// What operations do, in the rows that theirs are in now.
-fn moved_marks(
-    alloc: Global,
-    marks: &[Mark],
-    places: &[usize],
-    rows: &[Row],
-) -> Result<Vec<Mark>, AllocError> {
-    let mut moved = Vec::new(alloc);
-    for mark in marks {
-        let row = places.get(mark.row).copied().unwrap_or(0);
-        let is_single = rows.get(row).is_some_and(|it| it.ranges == 1);
-        let goes_on = mark.goes_on && is_single;
-        moved.push(Mark {
-            row,
-            goes_on,
-            ..*mark
-        })?;
-    }
-    Ok(moved)
-}
-
-/// The conflicts, in the rows that theirs are in now.
-fn moved_conflicts(
-    alloc: Global,
-    conflicts: &[(usize, usize)],
-    places: &[usize],
-) -> Result<Vec<(usize, usize)>, AllocError> {
-    let mut moved = Vec::new(alloc);
-    for (row, bar) in conflicts {
-        moved.push((places.get(*row).copied().unwrap_or(0), *bar))?;
-    }
-    Ok(moved)
-}
-
-/// The rows if those are folded that have no conflict.
-fn fold(alloc: Global, grid: Grid) -> Result<Grid, AllocError> {
-    let (places, rows) = folded(alloc, &grid.rows)?;
-    Ok(Grid {
-        marks: moved_marks(alloc, &grid.marks, &places, &rows)?,
-        conflicts: moved_conflicts(alloc, &grid.conflicts, &places)?,
-        rows,
-    })
 }
 
 /// The rows of these items, of which none is folded.
@@ -519,14 +504,10 @@ pub(crate) fn grid_of(
     let items = items_of(alloc, layout, slots)?;
     let mut grid = unfolded(alloc, &items)?;
     if grid.rows.len() > MOST_ROWS_SHOWN {
-        grid = fold(alloc, grid)?;
+        grid.fold(alloc)?;
     }
     grid.marks
         .sort_unstable_by_key(|mark| (mark.row, mark.column));
-    let marks = merged(alloc, &grid.marks)?;
-    Ok(Grid {
-        rows: grid.rows,
-        marks,
-        conflicts: grid.conflicts,
-    })
+    grid.marks = merged(alloc, &grid.marks)?;
+    Ok(grid)
 }

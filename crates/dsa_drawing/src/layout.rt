@@ -126,6 +126,18 @@ pub struct Layout<'a> {
     pub notes: Vec<String>,
 }
 
+impl Layout<'_> {
+    /// The name of a split operation.
+    pub(crate) fn split_name(&self, operation: usize) -> Option<&str> {
+        for split in &self.splits {
+            if split.operation == operation {
+                return Some(&split.name);
+            }
+        }
+        None
+    }
+}
+
 impl Bar {
     /// Whether it is a missing wait that is no error.
     pub(crate) fn is_accepted_wait(&self) -> bool {

@@ -5,25 +5,20 @@ use std::alloc::{AllocError, Global};
 use std::collections::BTreeMap;
 
 /// Writes what is before a column, and which other columns it is about, as seen from column `start`.
-pub(crate) fn push_bar(
-    alloc: Global,
-    text: &mut String,
-    bar: &Bar,
-    start: usize,
-) -> Result<(), AllocError> {
+pub(crate) fn push_bar(text: &mut String, bar: &Bar, start: usize) -> Result<(), AllocError> {
     let (column, words) = (bar.column.saturating_sub(start), &bar.words);
     let state = if bar.is_accepted_wait() {
         "accepted "
     } else {
         ""
     };
-    text.push_str(&format!(in alloc; "; {column} {state}{words}")?)?;
+    write!(text, "; {column} {state}{words}")?;
     match bar.separated {
         Some(separated) => {
             let (earlier, later) = (separated.earlier, separated.later);
             let before = start.saturating_sub(earlier);
             let (after, last) = (earlier.saturating_sub(start), later.saturating_sub(start));
-            text.push_str(&format!(in alloc; " {before} {after} {last}")?)
+            write!(text, " {before} {after} {last}")
         }
         None => Ok(()),
     }
@@ -31,41 +26,37 @@ pub(crate) fn push_bar(
 
 /// Writes what columns that are alike have in common: the name, which may be a comment, the size, and how many spans
 /// are read and written, which tells operations apart.
-pub(crate) fn push_column(
-    alloc: Global,
-    text: &mut String,
-    column: &Column,
-) -> Result<(), AllocError> {
+pub(crate) fn push_column(text: &mut String, column: &Column) -> Result<(), AllocError> {
     let (name, size) = (&column.name, column.size);
-    text.push_str(&format!(in alloc; "; {name} {size}")?)?;
+    write!(text, "; {name} {size}")?;
     match &column.touched {
         Some(touched) => {
             let (reads, writes) = (touched.reads.len(), touched.writes.len());
-            text.push_str(&format!(in alloc; " {reads} {writes}")?)
+            write!(text, " {reads} {writes}")
         }
         None => Ok(()),
     }
 }
 
-/// What groups that are alike have in common: the operations and the fences.
-fn common_text(
-    alloc: Global,
+/// Writes what groups that are alike have in common: the operations and the fences.
+fn push_common(
+    text: &mut String,
     group: &Group,
     columns: &[Column],
     bars: &[Bar],
     start: usize,
-) -> Result<String, AllocError> {
-    let mut text = String::from_str(alloc, &group.kind)?;
+) -> Result<(), AllocError> {
+    text.push_str(&group.kind)?;
     if group.has_barrier {
         text.push_str("; barrier")?;
     }
     for column in columns {
-        push_column(alloc, &mut text, column)?;
+        push_column(text, column)?;
     }
     for bar in bars {
-        push_bar(alloc, &mut text, bar, start)?;
+        push_bar(text, bar, start)?;
     }
-    Ok(text)
+    Ok(())
 }
 
 /// The bars before a column, and the others.
@@ -77,6 +68,19 @@ pub(crate) fn bars_around(bars: &[Bar], column: usize) -> (&[Bar], &[Bar]) {
         }
     }
     (bars, none)
+}
+
+/// The first number that came with this text, which is this number if none did.
+pub(crate) fn first_with(
+    firsts: &mut BTreeMap<String, usize>,
+    text: String,
+    number: usize,
+) -> Result<usize, AllocError> {
+    if let Some(first) = firsts.get(&text) {
+        return Ok(*first);
+    }
+    firsts.insert(text, number)?;
+    Ok(number)
 }
 
 /// For each group the first that it is like, if it is not that.
@@ -92,12 +96,10 @@ pub(crate) fn likes_of(
         let (own, after) = rest.split_at(group.size.min(rest.len()));
         let end = start.saturating_add(own.len());
         let (own_bars, bars_after) = bars_around(rest_bars, end);
-        let text = common_text(alloc, group, own, own_bars, start)?;
-        let like = firsts.get(&text).copied();
-        if like.is_none() {
-            firsts.insert(text, number)?;
-        }
-        likes.push(like)?;
+        let mut text = String::new(alloc);
+        push_common(&mut text, group, own, own_bars, start)?;
+        let first = first_with(&mut firsts, text, number)?;
+        likes.push(if first < number { Some(first) } else { None })?;
         (rest, rest_bars, start) = (after, bars_after, end);
     }
     Ok(likes)

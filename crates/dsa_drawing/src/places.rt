@@ -29,6 +29,13 @@ const WIDEST: usize = 80;
 /// How wide all columns are together, if none is too wide or too narrow.
 const COLUMNS: usize = 740;
 
+/// A column, and where it begins.
+#[derive(Clone, Copy)]
+pub(crate) struct Placed {
+    pub(crate) slot: Slot,
+    pub(crate) left: usize,
+}
+
 /// Where everything is.
 #[derive(Drop)]
 pub(crate) struct Places {
@@ -38,10 +45,10 @@ pub(crate) struct Places {
     pub(crate) is_narrow: bool,
     /// How wide the gap between groups is.
     pub(crate) gap: usize,
-    /// Where each column begins.
-    pub(crate) lefts: Vec<usize>,
-    /// The column of each operation that has one.
-    pub(crate) columns: Vec<Option<usize>>,
+    /// The columns.
+    pub(crate) columns: Vec<Placed>,
+    /// Where the column of each operation begins that has one.
+    pub(crate) lefts: Vec<Option<usize>>,
     /// Where the last column ends.
     pub(crate) right: usize,
     /// Where the names of operations begin, below those of groups.
@@ -57,8 +64,7 @@ pub(crate) struct Places {
 impl Places {
     /// Where the operation's column begins, if it has one.
     pub(crate) fn left_of(&self, operation: usize) -> Option<usize> {
-        let column = self.columns.get(operation).copied()??;
-        self.lefts.get(column).copied()
+        self.lefts.get(operation).copied().flatten()
     }
 
     /// Where the row begins.
@@ -72,41 +78,41 @@ fn width_of(columns: usize) -> usize {
     (COLUMNS / columns.max(1)).clamp(30, WIDEST)
 }
 
-/// Where each column begins: there is a gap between groups.
-fn lefts_of(
+/// The columns of this width: there is a gap between groups.
+fn columns_of(
     alloc: Global,
     slots: &[Slot],
     width: usize,
     gap: usize,
-) -> Result<Vec<usize>, AllocError> {
-    let mut lefts = Vec::new(alloc);
+) -> Result<Vec<Placed>, AllocError> {
+    let mut columns = Vec::new(alloc);
     let (mut left, mut group) = (LEFT, 0usize);
     for slot in slots {
         if slot.group != group {
             left = left.saturating_add(gap);
             group = slot.group;
         }
-        lefts.push(left)?;
+        columns.push(Placed { slot: *slot, left })?;
         left = left.saturating_add(width);
     }
-    Ok(lefts)
+    Ok(columns)
 }
 
-/// The column of each of so many operations that has one, or is the first of the pieces that have one.
-fn columns_of(
+/// Where the column of each of so many operations begins that has one, or is the first of the pieces that have one.
+fn lefts_of(
     alloc: Global,
-    slots: &[Slot],
+    columns: &[Placed],
     operations: usize,
 ) -> Result<Vec<Option<usize>>, AllocError> {
-    let mut columns = vec![in alloc; None; operations]?;
-    for (column, slot) in slots.iter().enumerate() {
-        if let Some(operation) = slot.marked()
-            && operation < columns.len()
+    let mut lefts = vec![in alloc; None; operations]?;
+    for column in columns {
+        if let Some(operation) = column.slot.marked()
+            && operation < lefts.len()
         {
-            columns[operation] = Some(column);
+            lefts[operation] = Some(column.left);
         }
     }
-    Ok(columns)
+    Ok(lefts)
 }
 
 /// How high a text is in a column of this width.
@@ -124,7 +130,26 @@ fn is_narrow(width: usize) -> bool {
     width < 48
 }
 
-/// How high the names of the operations are that have columns.
+/// How high the name of a column is.
+fn name_height(
+    alloc: Global,
+    layout: &Layout<'_>,
+    slot: &Slot,
+    width: usize,
+) -> Result<usize, AllocError> {
+    if slot.split().is_some() {
+        return height_of(alloc, &fold_name(alloc, layout, slot)?, width);
+    }
+    if slot.is_folded() {
+        return height_of(alloc, FOLDED, width);
+    }
+    match slot.column(layout) {
+        Some(column) => height_of(alloc, &column.name, width),
+        None => Ok(0),
+    }
+}
+
+/// How high the names of the columns are.
 fn names_height(
     alloc: Global,
     layout: &Layout<'_>,
@@ -133,16 +158,7 @@ fn names_height(
 ) -> Result<usize, AllocError> {
     let mut height: usize = 13;
     for slot in slots {
-        if slot.split().is_some() {
-            let name = fold_name(alloc, layout, slot)?;
-            height = height.max(height_of(alloc, &name, width)?);
-        } else if slot.is_folded() {
-            height = height.max(height_of(alloc, FOLDED, width)?);
-        } else if let Some(operation) = slot.operation()
-            && let Some(column) = layout.columns.get(operation)
-        {
-            height = height.max(height_of(alloc, &column.name, width)?);
-        }
+        height = height.max(name_height(alloc, layout, slot, width)?);
     }
     Ok(height)
 }
@@ -193,8 +209,6 @@ pub(crate) fn places_of(
 ) -> Result<Places, AllocError> {
     let width = width_of(slots.len());
     let gap: usize = if width < WIDEST { 3 } else { 8 };
-    let lefts = lefts_of(alloc, slots, width, gap)?;
-    let right = lefts.last().copied().unwrap_or(LEFT).saturating_add(width);
     let names = heads_height(slots, width);
     let top = names
         .saturating_add(names_height(alloc, layout, slots, width)?)
@@ -203,12 +217,18 @@ pub(crate) fn places_of(
     let notes = bottom
         .saturating_add(words_height(alloc, layout, width)?)
         .saturating_add(22);
+    let columns = columns_of(alloc, slots, width, gap)?;
+    let right = match columns.last() {
+        Some(last) => last.left.saturating_add(width),
+        None => LEFT.saturating_add(width),
+    };
+    let lefts = lefts_of(alloc, &columns, layout.columns.len())?;
     Ok(Places {
         width,
         is_narrow: is_narrow(width),
         gap,
+        columns,
         lefts,
-        columns: columns_of(alloc, slots, layout.columns.len())?,
         right,
         names,
         top,

@@ -1,7 +1,7 @@
 //! Columns that repeat those before them, which are folded into one.
 
 use crate::layout::{Bar, Layout};
-use crate::likeness::{bars_around, push_bar, push_column};
+use crate::likeness::{bars_around, first_with, push_bar, push_column};
 use crate::slots::{Fold, Slot};
 use std::alloc::{AllocError, Global};
 use std::collections::BTreeMap;
@@ -33,70 +33,47 @@ impl Repeat {
 }
 
 /// Writes what operations that are alike have in common, of so many from the first on.
-fn push_operations(
-    alloc: Global,
-    text: &mut String,
-    layout: &Layout<'_>,
-    slot: &Slot,
-) -> Result<(), AllocError> {
+fn push_operations(text: &mut String, layout: &Layout<'_>, slot: &Slot) -> Result<(), AllocError> {
     for column in layout.columns.iter().skip(slot.first).take(slot.count) {
-        push_column(alloc, text, column)?;
-    }
-    Ok(())
-}
-
-/// Writes the name of an operation of which pieces are folded.
-fn push_split(text: &mut String, layout: &Layout<'_>, operation: usize) -> Result<(), AllocError> {
-    for split in &layout.splits {
-        if split.operation == operation {
-            return text.push_str(&split.name);
-        }
+        push_column(text, column)?;
     }
     Ok(())
 }
 
 /// Writes what is in a column. No two folds of groups that are like others are alike.
-fn push_content(
-    alloc: Global,
-    text: &mut String,
-    layout: &Layout<'_>,
-    slot: &Slot,
-) -> Result<(), AllocError> {
+fn push_content(text: &mut String, layout: &Layout<'_>, slot: &Slot) -> Result<(), AllocError> {
     let (first, count, groups) = (slot.first, slot.count, slot.groups);
     match slot.fold {
-        Fold::Plain | Fold::Pieces(_) => {
-            text.push_str(&format!(in alloc; "; {count} in {groups} ")?)?;
-        }
+        Fold::Plain | Fold::Pieces(_) => write!(text, "; {count} in {groups} ")?,
         Fold::Like(_) | Fold::LikeSeveral | Fold::Repeats(_, _) | Fold::Rest => {
-            return text.push_str(&format!(in alloc; "; at {first}")?);
+            return write!(text, "; at {first}");
         }
     }
     match slot.split() {
-        Some(operation) => push_split(text, layout, operation),
-        None => push_operations(alloc, text, layout, slot),
+        Some(operation) => text.push_str(layout.split_name(operation).unwrap_or("")),
+        None => push_operations(text, layout, slot),
     }
 }
 
-/// What columns that are alike have in common, of which these are the bars.
-fn slot_text(
-    alloc: Global,
+/// Writes what columns that are alike have in common, of which these are the bars.
+fn push_slot(
+    text: &mut String,
     layout: &Layout<'_>,
     slot: &Slot,
     begins: bool,
     bars: &[Bar],
-) -> Result<String, AllocError> {
-    let mut text = String::new(alloc);
+) -> Result<(), AllocError> {
     if begins && let Some(group) = layout.groups.get(slot.group) {
         text.push_str(&group.kind)?;
         if group.has_barrier {
             text.push_str(" barrier")?;
         }
     }
-    push_content(alloc, &mut text, layout, slot)?;
+    push_content(text, layout, slot)?;
     for bar in bars {
-        push_bar(alloc, &mut text, bar, slot.first)?;
+        push_bar(text, bar, slot.first)?;
     }
-    Ok(text)
+    Ok(())
 }
 
 /// The columns as they are compared.
@@ -107,12 +84,10 @@ fn tokens_of(alloc: Global, layout: &Layout<'_>, slots: &[Slot]) -> Result<Vec<T
     for slot in slots {
         let (own, after) = bars_around(bars, slot.first.saturating_add(slot.count));
         let begins = slot.group != group;
-        let text = slot_text(alloc, layout, slot, begins, own)?;
+        let mut text = String::new(alloc);
+        push_slot(&mut text, layout, slot, begins, own)?;
         let next = kinds.len();
-        let kind = kinds.get(&text).copied().unwrap_or(next);
-        if kind == next {
-            kinds.insert(text, kind)?;
-        }
+        let kind = first_with(&mut kinds, text, next)?;
         tokens.push(Token { kind, begins })?;
         (bars, group) = (after, slot.group);
     }

@@ -1,9 +1,9 @@
 //! The rows of a picture: buffers, what operations do in them, and conflicts.
 
 use crate::grid::{Grid, Mark, Row};
-use crate::layout::{Buffer, Layout};
+use crate::layout::{Bar, Buffer, Layout};
 use crate::places::{LEFT, Places, ROW};
-use crate::shapes::{Extent, Spot, close, open, place, push_box, push_line, push_text};
+use crate::shapes::{Extent, Spot, close, place, push_box, push_line, push_text};
 use crate::texts::{SIZE, letter_size, letters_in, letters_of};
 use std::alloc::{AllocError, Global};
 
@@ -22,31 +22,61 @@ const STRIP_HIGH: u128 = 10;
 /// The smallest letters of the offset of a part.
 const SMALL: usize = 7;
 
-/// Addresses from the first to before the end.
-fn addresses(alloc: Global, first: u64, end: u128) -> Result<String, AllocError> {
+/// Writes addresses from the first to before the end.
+fn push_addresses(text: &mut String, first: u64, end: u128) -> Result<(), AllocError> {
     let size = end.saturating_sub(u128::from(first));
-    format!(in alloc; "0x{first:x} +{size}")
+    write!(text, "0x{first:x} +{size}")
 }
 
-/// The name of a row: its buffer's, with its offset if the buffer begins in a row before; or its addresses; or how many
-/// buffers it has.
-fn row_name(alloc: Global, buffers: &[Buffer], row: &Row) -> Result<String, AllocError> {
+/// Opens a group of parts of this class, with addresses as its title.
+fn open_at(svg: &mut String, class: &str, first: u64, end: u128) -> Result<(), AllocError> {
+    write!(svg, "<g class=\"{class}\"><title>")?;
+    push_addresses(svg, first, end)?;
+    svg.push_str("</title>")
+}
+
+/// Writes the name of a row: its buffer's, with its offset if the buffer begins in a row before; or its addresses; or
+/// how many buffers it has.
+fn push_row_name(name: &mut String, buffers: &[Buffer], row: &Row) -> Result<(), AllocError> {
     let ranges = row.ranges;
     if ranges > 1 {
-        return format!(in alloc; "{ranges} buffers");
+        return write!(name, "{ranges} buffers");
     }
     if let Some(number) = row.name
         && let Some(buffer) = buffers.get(number)
     {
+        name.push_str(&buffer.name)?;
         let offset = row.first.saturating_sub(buffer.address);
-        let name = &buffer.name;
         return if offset > 0 {
-            format!(in alloc; "{name} at {offset}")
+            write!(name, " at {offset}")
         } else {
-            String::from_str(alloc, name)
+            Ok(())
         };
     }
-    addresses(alloc, row.first, row.end)
+    push_addresses(name, row.first, row.end)
+}
+
+/// Writes a row that begins there.
+fn push_row(
+    alloc: Global,
+    svg: &mut String,
+    buffers: &[Buffer],
+    row: &Row,
+    top: usize,
+    right: usize,
+) -> Result<(), AllocError> {
+    open_at(svg, "row", row.first, row.end)?;
+    let mut name = String::new(alloc);
+    push_row_name(&mut name, buffers, row)?;
+    let (at, foot) = (place(8, top.saturating_add(15)), top.saturating_add(ROW));
+    push_text(svg, at, LEFT - 14, &name)?;
+    push_line(
+        svg,
+        place(LEFT, foot),
+        place(right, foot),
+        "stroke=\"#ccc\"",
+    )?;
+    close(svg)
 }
 
 /// Writes the rows.
@@ -58,42 +88,41 @@ pub(crate) fn push_rows(
     places: &Places,
 ) -> Result<(), AllocError> {
     for (number, row) in grid.rows.iter().enumerate() {
-        let top = places.top_of(number);
-        let foot = top.saturating_add(ROW);
-        open(alloc, svg, "row", &addresses(alloc, row.first, row.end)?)?;
-        let at = place(8, top.saturating_add(15));
-        push_text(alloc, svg, at, LEFT - 14, &row_name(alloc, buffers, row)?)?;
-        push_line(
+        push_row(
             alloc,
             svg,
-            place(LEFT, foot),
-            place(places.right, foot),
-            "stroke=\"#ccc\"",
+            buffers,
+            row,
+            places.top_of(number),
+            places.right,
         )?;
-        close(svg)?;
     }
     Ok(())
 }
 
+/// Where the line of the conflict of a fence begins and ends, if both operations have columns.
+fn ends_of(places: &Places, bar: &Bar) -> Option<(usize, usize)> {
+    let separated = bar.separated?;
+    let earlier = places.left_of(separated.earlier)?;
+    let later = places.left_of(separated.later)?;
+    let from = earlier.saturating_add(places.width).saturating_sub(INSET);
+    Some((from, later.saturating_add(INSET)))
+}
+
 /// Writes the lines of the conflicts, each from the earlier operation to the later.
 pub(crate) fn push_conflicts(
-    alloc: Global,
     svg: &mut String,
     layout: &Layout<'_>,
     grid: &Grid,
     places: &Places,
 ) -> Result<(), AllocError> {
+    let paint = "class=\"conflict\" stroke=\"#c00\" stroke-width=\"2\"";
     for (row, bar) in &grid.conflicts {
         if let Some(bar) = layout.bars.get(*bar)
-            && let Some(separated) = bar.separated
-            && let Some(earlier) = places.left_of(separated.earlier)
-            && let Some(later) = places.left_of(separated.later)
+            && let Some((from, to)) = ends_of(places, bar)
         {
             let y = places.top_of(*row).saturating_add(ROW / 2);
-            let from = earlier.saturating_add(places.width).saturating_sub(INSET);
-            let to = later.saturating_add(INSET);
-            let paint = "class=\"conflict\" stroke=\"#c00\" stroke-width=\"2\"";
-            push_line(alloc, svg, place(from, y), place(to, y), paint)?;
+            push_line(svg, place(from, y), place(to, y), paint)?;
             svg.push_str("\n")?;
         }
     }
@@ -135,19 +164,18 @@ fn scaled(bytes: u128, all: u128) -> usize {
 }
 
 /// Writes a strip that stands for the row, black where the part is.
-fn push_strip(alloc: Global, svg: &mut String, at: Spot, part: Part) -> Result<(), AllocError> {
+fn push_strip(svg: &mut String, at: Spot, part: Part) -> Result<(), AllocError> {
     let high = scaled(STRIP_HIGH, STRIP_HIGH);
     let own = scaled(part.size, part.all).max(2);
     let above = scaled(part.offset, part.all).min(high.saturating_sub(own));
     let (width, height) = (4, high);
-    push_box(alloc, svg, at, Extent { width, height }, "fill=\"white\"")?;
+    push_box(svg, at, Extent { width, height }, "fill=\"white\"")?;
     let (from, height) = (place(at.x, at.y.saturating_add(above)), own);
-    push_box(alloc, svg, from, Extent { width, height }, "fill=\"black\"")
+    push_box(svg, from, Extent { width, height }, "fill=\"black\"")
 }
 
 /// Writes words in the middle of a width from a place on.
 fn push_middle(
-    alloc: Global,
     svg: &mut String,
     from: Spot,
     width: usize,
@@ -155,12 +183,12 @@ fn push_middle(
     words: &str,
 ) -> Result<(), AllocError> {
     let (x, y) = (from.x.saturating_add(width / 2), from.y);
-    svg.push_str(&format!(in alloc; "<text x=\"{x}\" y=\"{y}\" fill=\"{ink}\"")?)?;
+    write!(svg, "<text x=\"{x}\" y=\"{y}\" fill=\"{ink}\"")?;
     let size = letter_size(words, width);
     if size != SIZE {
-        svg.push_str(&format!(in alloc; " font-size=\"{size}\"")?)?;
+        write!(svg, " font-size=\"{size}\"")?;
     }
-    svg.push_str(&format!(in alloc; " text-anchor=\"middle\">{words}</text>")?)
+    write!(svg, " text-anchor=\"middle\">{words}</text>")
 }
 
 /// The words of a mark in a part of its row: with the offset, if there is room.
@@ -189,19 +217,19 @@ fn push_mark_box(
         ("fill=\"white\" stroke=\"#456\"", "black")
     };
     let height = if mark.goes_on { ROW } else { HIGH };
-    push_box(alloc, svg, at, Extent { width, height }, paint)?;
+    push_box(svg, at, Extent { width, height }, paint)?;
     let base = at.y.saturating_add(11);
     let Some(part) = part else {
-        return push_middle(alloc, svg, place(at.x, base), width, ink, letters(mark));
+        return push_middle(svg, place(at.x, base), width, ink, letters(mark));
     };
     let strip = place(at.x.saturating_add(2), at.y.saturating_add(2));
-    push_strip(alloc, svg, strip, part)?;
+    push_strip(svg, strip, part)?;
     let (from, room) = (
         place(at.x.saturating_add(STRIP), base),
         width.saturating_sub(STRIP),
     );
     let words = part_words(alloc, mark, part, room)?;
-    push_middle(alloc, svg, from, room, ink, &words)
+    push_middle(svg, from, room, ink, &words)
 }
 
 /// Writes a mark of this row in a column that begins there. A browser shows the addresses of a part.
@@ -219,7 +247,7 @@ fn push_mark(
     );
     let part = part_of(row, mark);
     if part.is_some() {
-        open(alloc, svg, "mark", &addresses(alloc, mark.first, mark.end)?)?;
+        open_at(svg, "mark", mark.first, mark.end)?;
     } else {
         svg.push_str("<g class=\"mark\">")?;
     }

@@ -1,6 +1,6 @@
 //! The parts of a picture.
 
-use crate::texts::{SIZE, cut, letter_size, letters_in, push_escaped};
+use crate::texts::{SIZE, letter_size, letters_in, push_cut, push_escaped, wrapped};
 use std::alloc::{AllocError, Global};
 
 /// Where something begins: how far from the left, and from the top.
@@ -23,13 +23,8 @@ pub(crate) struct Extent {
 }
 
 /// Opens a group of parts of this class, with a title that a browser shows under the pointer.
-pub(crate) fn open(
-    alloc: Global,
-    svg: &mut String,
-    class: &str,
-    title: &str,
-) -> Result<(), AllocError> {
-    svg.push_str(&format!(in alloc; "<g class=\"{class}\"><title>")?)?;
+pub(crate) fn open(svg: &mut String, class: &str, title: &str) -> Result<(), AllocError> {
+    write!(svg, "<g class=\"{class}\"><title>")?;
     push_escaped(svg, title)?;
     svg.push_str("</title>")
 }
@@ -41,75 +36,82 @@ pub(crate) fn close(svg: &mut String) -> Result<(), AllocError> {
 
 /// Writes a rectangle with these further attributes.
 pub(crate) fn push_box(
-    alloc: Global,
     svg: &mut String,
     at: Spot,
     extent: Extent,
     paint: &str,
 ) -> Result<(), AllocError> {
     let (x, y, width, height) = (at.x, at.y, extent.width, extent.height);
-    svg.push_str(&format!(in alloc; "<rect x=\"{x}\" y=\"{y}\" ")?)?;
-    svg.push_str(&format!(in alloc; "width=\"{width}\" height=\"{height}\" {paint}/>")?)
+    write!(svg, "<rect x=\"{x}\" y=\"{y}\" ")?;
+    write!(svg, "width=\"{width}\" height=\"{height}\" {paint}/>")
 }
 
 /// Writes a line with these further attributes.
 pub(crate) fn push_line(
-    alloc: Global,
     svg: &mut String,
     from: Spot,
     to: Spot,
     paint: &str,
 ) -> Result<(), AllocError> {
     let (left, top, right, bottom) = (from.x, from.y, to.x, to.y);
-    svg.push_str(&format!(in alloc; "<line x1=\"{left}\" y1=\"{top}\" ")?)?;
-    svg.push_str(&format!(in alloc; "x2=\"{right}\" y2=\"{bottom}\" {paint}/>")?)
+    write!(svg, "<line x1=\"{left}\" y1=\"{top}\" ")?;
+    write!(svg, "x2=\"{right}\" y2=\"{bottom}\" {paint}/>")
 }
 
 /// Writes a text in letters that are small enough for this width, or the beginning of it.
 pub(crate) fn push_text(
-    alloc: Global,
     svg: &mut String,
     at: Spot,
     width: usize,
     words: &str,
 ) -> Result<(), AllocError> {
     let (x, y, size) = (at.x, at.y, letter_size(words, width));
-    svg.push_str(&format!(in alloc; "<text x=\"{x}\" y=\"{y}\"")?)?;
+    write!(svg, "<text x=\"{x}\" y=\"{y}\"")?;
     if size != SIZE {
-        svg.push_str(&format!(in alloc; " font-size=\"{size}\"")?)?;
+        write!(svg, " font-size=\"{size}\"")?;
     }
     svg.push_str(">")?;
-    push_escaped(svg, &cut(alloc, words, letters_in(width, size))?)?;
+    push_cut(svg, words, letters_in(width, size))?;
     svg.push_str("</text>")
 }
 
-/// Writes a text that is read from the bottom to the top, and begins or ends at the spot.
-pub(crate) fn push_turned(
+/// Writes a text in lines of this width, of which the first is at the spot.
+pub(crate) fn push_wrapped(
     alloc: Global,
+    svg: &mut String,
+    at: Spot,
+    width: usize,
+    words: &str,
+) -> Result<(), AllocError> {
+    let mut y = at.y;
+    for line in &wrapped(alloc, words, letters_in(width, SIZE))? {
+        push_text(svg, place(at.x, y), width, line)?;
+        y = y.saturating_add(13);
+    }
+    Ok(())
+}
+
+/// Writes a text, or so many letters of it, that is read from the bottom to the top, and begins or ends at the spot.
+pub(crate) fn push_turned(
     svg: &mut String,
     at: Spot,
     anchor: &str,
     words: &str,
+    most: usize,
 ) -> Result<(), AllocError> {
     let (x, y) = (at.x, at.y);
-    svg.push_str(&format!(in alloc; "<text x=\"{x}\" y=\"{y}\" ")?)?;
-    svg.push_str(&format!(in alloc; "text-anchor=\"{anchor}\" ")?)?;
-    svg.push_str(&format!(in alloc; "transform=\"rotate(-90 {x} {y})\">")?)?;
-    push_escaped(svg, words)?;
+    write!(svg, "<text x=\"{x}\" y=\"{y}\" text-anchor=\"{anchor}\" ")?;
+    write!(svg, "transform=\"rotate(-90 {x} {y})\">")?;
+    push_cut(svg, words, most)?;
     svg.push_str("</text>")
 }
 
 /// Writes the head of a picture of this size, its title and its ground.
-pub(crate) fn push_head(
-    alloc: Global,
-    svg: &mut String,
-    extent: Extent,
-    title: &str,
-) -> Result<(), AllocError> {
+pub(crate) fn push_head(svg: &mut String, extent: Extent, title: &str) -> Result<(), AllocError> {
     let (width, height) = (extent.width, extent.height);
     svg.push_str("xmlns=\"http://www.w3.org/2000/svg\" role=\"img\" ")?;
-    svg.push_str(&format!(in alloc; "width=\"{width}\" height=\"{height}\" ")?)?;
-    svg.push_str(&format!(in alloc; "viewBox=\"0 0 {width} {height}\" ")?)?;
+    write!(svg, "width=\"{width}\" height=\"{height}\" ")?;
+    write!(svg, "viewBox=\"0 0 {width} {height}\" ")?;
     svg.push_str("font-family=\"monospace\" font-size=\"11\">\n<title>")?;
     push_escaped(svg, title)?;
     svg.push_str("</title>\n<rect width=\"100%\" height=\"100%\" fill=\"white\"/>\n")

@@ -1,6 +1,6 @@
 //! Which operations have a column of their own, and which are folded.
 
-use crate::layout::{Group, Layout};
+use crate::layout::{Bar, Column, Group, Layout};
 use crate::likeness::likes_of;
 use crate::repeats::without_repeats;
 use std::alloc::{AllocError, Global};
@@ -48,6 +48,11 @@ impl Slot {
         } else {
             None
         }
+    }
+
+    /// What is shown of that operation.
+    pub(crate) fn column<'a>(self, layout: &'a Layout<'_>) -> Option<&'a Column> {
+        layout.columns.get(self.operation()?)
     }
 
     /// Whether operations or empty batches are folded in it.
@@ -99,7 +104,7 @@ fn unfolded(groups: &[Group]) -> usize {
 }
 
 /// Sets the mark of an operation.
-fn keep(kept: &mut Vec<bool>, operation: usize) {
+fn keep(kept: &mut [bool], operation: usize) {
     if operation < kept.len() {
         kept[operation] = true;
     }
@@ -114,14 +119,21 @@ fn unsplit_or(alloc: Global, layout: &Layout<'_>, kept: &[bool]) -> Result<Vec<b
     Ok(unsplit)
 }
 
-/// The operations that a fence or a wait, or the conflict of one, is about; but not those of a wait that is no error.
+/// Sets the marks of the operations that a fence or a wait, or the conflict of one, is about.
+fn keep_those_of(kept: &mut [bool], bar: &Bar) {
+    keep(kept, bar.column);
+    if let Some(separated) = &bar.separated {
+        keep(kept, separated.earlier);
+        keep(kept, separated.later);
+    }
+}
+
+/// The operations that fences and waits are about; but not those of a wait that is no error.
 fn kept_of(alloc: Global, layout: &Layout<'_>) -> Result<Vec<bool>, AllocError> {
     let mut kept = vec![in alloc; false; layout.columns.len()]?;
-    for bar in layout.bars.iter().filter(|bar| !bar.is_accepted_wait()) {
-        keep(&mut kept, bar.column);
-        if let Some(separated) = &bar.separated {
-            keep(&mut kept, separated.earlier);
-            keep(&mut kept, separated.later);
+    for bar in &layout.bars {
+        if !bar.is_accepted_wait() {
+            keep_those_of(&mut kept, bar);
         }
     }
     Ok(kept)
@@ -274,6 +286,16 @@ fn grouped(
     Ok(slots)
 }
 
+/// The columns of a picture of which these operations are kept, with one for those that repeat others.
+fn unrepeated(
+    alloc: Global,
+    layout: &Layout<'_>,
+    kept: &[bool],
+    rule: Rule<'_>,
+) -> Result<Vec<Slot>, AllocError> {
+    without_repeats(alloc, layout, &grouped(alloc, layout, kept, rule)?)
+}
+
 /// The first columns, and one for all others.
 fn cut(alloc: Global, slots: &[Slot]) -> Result<Vec<Slot>, AllocError> {
     let (own, rest) = slots.split_at(MOST_COLUMNS.saturating_sub(1).min(slots.len()));
@@ -294,6 +316,15 @@ fn cut(alloc: Global, slots: &[Slot]) -> Result<Vec<Slot>, AllocError> {
     Ok(cut)
 }
 
+/// These columns, if they are not too many.
+fn if_few(slots: Vec<Slot>) -> Option<Vec<Slot>> {
+    if slots.len() <= MOST_COLUMNS {
+        Some(slots)
+    } else {
+        None
+    }
+}
+
 /// The columns of a picture of many operations, of which a fence or its conflict is about these.
 fn of_many(
     alloc: Global,
@@ -301,24 +332,18 @@ fn of_many(
     rule: Rule<'_>,
     kept: &[bool],
 ) -> Result<Vec<Slot>, AllocError> {
-    let rule = Rule {
+    let parting = Rule {
         parts_pieces: true,
         ..rule
     };
     let unsplit = unsplit_or(alloc, layout, kept)?;
-    let repeated = without_repeats(alloc, layout, &grouped(alloc, layout, &unsplit, rule)?)?;
-    if repeated.len() <= MOST_COLUMNS {
-        return Ok(repeated);
+    if let Some(few) = if_few(unrepeated(alloc, layout, &unsplit, parting)?) {
+        return Ok(few);
     }
-    let parted = grouped(alloc, layout, kept, rule)?;
-    if parted.len() <= MOST_COLUMNS {
-        return Ok(parted);
+    if let Some(few) = if_few(grouped(alloc, layout, kept, parting)?) {
+        return Ok(few);
     }
-    let rule = Rule {
-        parts_pieces: false,
-        ..rule
-    };
-    let fewest = without_repeats(alloc, layout, &grouped(alloc, layout, kept, rule)?)?;
+    let fewest = unrepeated(alloc, layout, kept, rule)?;
     if fewest.len() <= MOST_COLUMNS {
         Ok(fewest)
     } else {
@@ -332,18 +357,20 @@ fn of_many(
 pub(crate) fn slots_of(alloc: Global, layout: &Layout<'_>) -> Result<Vec<Slot>, AllocError> {
     let all = vec![in alloc; true; layout.columns.len()]?;
     let likes = likes_of(alloc, layout)?;
-    let mut rule = Rule {
+    let all_groups = Rule {
         folds_groups: false,
         parts_pieces: false,
         likes: &likes,
     };
     if unfolded(&layout.groups) <= MOST_COLUMNS {
-        return grouped(alloc, layout, &all, rule);
+        return grouped(alloc, layout, &all, all_groups);
     }
-    rule.folds_groups = true;
-    let different = grouped(alloc, layout, &all, rule)?;
-    if different.len() <= MOST_COLUMNS {
-        return Ok(different);
+    let rule = Rule {
+        folds_groups: true,
+        ..all_groups
+    };
+    if let Some(few) = if_few(grouped(alloc, layout, &all, rule)?) {
+        return Ok(few);
     }
     of_many(alloc, layout, rule, &kept_of(alloc, layout)?)
 }

@@ -27,48 +27,56 @@ pub(crate) fn letter_size(words: &str, width: usize) -> usize {
     (width.saturating_mul(5) / 3 / letters).clamp(SMALLEST, SIZE)
 }
 
-/// The first letters of a text, of which the last is an ellipsis if there are more.
-pub(crate) fn cut(alloc: Global, words: &str, most: usize) -> Result<String, AllocError> {
-    if letters_of(words) <= most {
-        return String::from_str(alloc, words);
+/// Writes a letter, spelled out if SVG has a meaning for it, or a blank for one that can't be seen.
+fn push_letter(svg: &mut String, letter: char) -> Result<(), AllocError> {
+    match letter {
+        '&' => svg.push_str("&amp;"),
+        '<' => svg.push_str("&lt;"),
+        '>' => svg.push_str("&gt;"),
+        '\u{fffe}' | '\u{ffff}' => svg.push(' '),
+        _ if letter.is_control() => svg.push(' '),
+        _ => svg.push(letter),
     }
-    let mut front: String = words.chars().take(most.saturating_sub(1)).collect(alloc)?;
-    front.push('…')?;
-    Ok(front)
 }
 
-/// Writes a text, with the signs of SVG spelled out, and a blank for what can't be seen.
+/// Writes a text, with the signs of SVG spelled out.
 pub(crate) fn push_escaped(svg: &mut String, words: &str) -> Result<(), AllocError> {
     for letter in words.chars() {
-        match letter {
-            '&' => svg.push_str("&amp;")?,
-            '<' => svg.push_str("&lt;")?,
-            '>' => svg.push_str("&gt;")?,
-            '\u{fffe}' | '\u{ffff}' => svg.push(' ')?,
-            _ if letter.is_control() => svg.push(' ')?,
-            _ => svg.push(letter)?,
-        }
+        push_letter(svg, letter)?;
     }
     Ok(())
 }
 
-/// Adds a word to the last line, or to one of its own if the last has no room for it. Answers whether there was room.
+/// Writes the first letters of a text, of which the last is an ellipsis if there are more.
+pub(crate) fn push_cut(svg: &mut String, words: &str, most: usize) -> Result<(), AllocError> {
+    if letters_of(words) <= most {
+        return push_escaped(svg, words);
+    }
+    for letter in words.chars().take(most.saturating_sub(1)) {
+        push_letter(svg, letter)?;
+    }
+    svg.push('…')
+}
+
+/// Adds a word to the last line, or to one of its own if the last has no room for it; or an ellipsis, if there are too
+/// many lines. Answers whether there was room.
 fn add_word(
     alloc: Global,
     lines: &mut Vec<String>,
     word: &str,
     letters: usize,
 ) -> Result<bool, AllocError> {
+    let is_last = lines.len() >= MOST_LINES;
     if let Some(last) = lines.last_mut() {
         let both = letters_of(last.as_str()).saturating_add(letters_of(word));
         if both < letters {
-            last.push_str(" ")?;
-            last.push_str(word)?;
+            write!(last, " {word}")?;
             return Ok(true);
         }
-    }
-    if lines.len() >= MOST_LINES {
-        return Ok(false);
+        if is_last {
+            last.push('…')?;
+            return Ok(false);
+        }
     }
     lines.push(String::from_str(alloc, word)?)?;
     Ok(true)
@@ -83,10 +91,7 @@ pub(crate) fn wrapped(
     let mut lines = Vec::new(alloc);
     for word in words.split(' ') {
         if !word.is_empty() && !add_word(alloc, &mut lines, word, letters)? {
-            if let Some(last) = lines.last_mut() {
-                last.push('…')?;
-            }
-            return Ok(lines);
+            break;
         }
     }
     Ok(lines)

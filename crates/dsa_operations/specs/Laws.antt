@@ -11,7 +11,7 @@ use Rattle.dsa_operations.specs.Operations.{OperationConflictAt, spelling_of}
 abbrev pub OneSpelling : Type 0
 OneSpelling = (o p : Operation) → spelling_of o ≡ spelling_of p → o ≡ p
 
--- descriptors conflict as operations where they do as descriptors
+-- descriptors conflict as operations exactly if they do as descriptors
 abbrev pub DescriptorsConflictAlike : Type 0
 DescriptorsConflictAlike =
     (ds : List Descriptor) (i j : ℕ) → ConflictAt (map fields ds) i j ↔ OperationConflictAt (map operation.Descriptor ds) i j

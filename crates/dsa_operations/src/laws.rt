@@ -12,7 +12,7 @@ pub fn one_spelling()
     ensures { OneSpelling }
 {}
 
-/// Descriptors conflict as operations of a list where they conflict as descriptors.
+/// Descriptors conflict as operations of a list exactly if they conflict as descriptors.
 pub fn descriptors_conflict_alike()
     ensures { DescriptorsConflictAlike }
 {}

@@ -48,7 +48,7 @@ none_named bytes low =
     let no_copy : eqb (u32_at 4 bytes / 2 ^ 24) 0x11 ≡ false = ne_eqb _ _ (λ e. omega (arith, low, e)) in
     rw (no_crc, no_copy) refl
 
-spelling_is_kept : (o : Operation) (f : FieldFault) → OperationKeeps (spelling_of o) f
+pub spelling_is_kept : (o : Operation) (f : FieldFault) → OperationKeeps (spelling_of o) f
 unfolding OperationKeeps
 spelling_is_kept (operation.Descriptor d) f =
     rw (none_named (spelling (fields d)) (low_word d)) (spelling_keeps (fields d) d.listed f)
@@ -91,7 +91,7 @@ fault_of-number Delta = refl
 fault_of-number Expected = refl
 fault_of-number RecordMeetsData = refl
 
-first_is_one : (bytes : List ℕ) (f g : FieldFault) → IsFirstOperationFault bytes f → IsFirstOperationFault bytes g → f ≡ g
+pub first_is_one : (bytes : List ℕ) (f g : FieldFault) → IsFirstOperationFault bytes f → IsFirstOperationFault bytes g → f ≡ g
 first_is_one bytes f g p q =
     ⊎_elim (λ (e : number f ≡ number g). sym (fault_of-number f) ∙ ap fault_of e ∙ fault_of-number g)
     (⊎_elim (λ (lt : number f < number g). absurd (p.stands (q.first f lt))) (λ (gt : number g < number f). absurd (q.stands (p.first g gt))))

@@ -9,3 +9,7 @@ pub mod Apart
 pub mod Windows
 pub mod Conflicting
 pub mod Listed
+pub mod Entries
+pub mod Unfenced
+pub mod Fenced
+pub mod Marked

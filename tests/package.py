@@ -161,6 +161,16 @@ def installed():
     tried("Python from the prefix", "python3", "-c", "import dsa_planner", PYTHONPATH=f"{new}/share/dsa-planner/python")
     tried("the removal", script, "--remove", new)
     expect(not new.exists(), f"the removal leaves {new}")
+    for other in ("bin/dsa", "share/doc/dsa-planner/README.md"):
+        theirs = Path(WORK, "others", other)
+        theirs.parent.mkdir(parents=True, exist_ok=True)
+        theirs.symlink_to("/nowhere") if other == "bin/dsa" else theirs.write_text("theirs")
+        refused(f"a prefix with {other} of others", [f"others/{other} is there, and not of this package"], script,
+                f"{WORK}/others")
+        found = [path for path in Path(WORK, "others").rglob("*") if not path.is_dir() or path.is_symlink()]
+        expect(found == [theirs], f"a refused installation leaves {found}")
+        theirs.unlink()
+    tried("the installation where nothing of others is left", script, f"{WORK}/others")
     refused("a removal of nothing", ["nothing is installed there"], script, "--remove", new)
     refused("no prefix", ["install.sh PREFIX"], script)
     refused("a prefix that is a file", ["cannot write to"], script, "/dev/null/prefix")
@@ -323,6 +333,9 @@ def device():
     refused("a missing wait", ["missing wait, read after write"], trace, "--audit", "--", "./ordered", "wait")
     if not Path("/dev/dsa").exists():
         refused("prices without a device", ["there is no such queue"], prices)
+    keep = "echo 0,0,0,0,0,0,1,3f03fd > /sys/bus/dsa/devices/dsa0/op_cap"
+    refused("prices of a portal that the kernel keeps", ["with CAP_SYS_RAWIO map its portal; without it the queue"],
+            trace, "--", "sh", "-c", f"{keep}; exec {prices}")
     for queue in ("wq0.0", "wq0.1"):
         words = [prices, "--greatest-batch", 8, "--times", 20, f"/dev/dsa/{queue}"]
         found = json.loads(tried("prices", trace, "--order", "fifo", "--", *words) or "{}")

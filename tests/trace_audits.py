@@ -232,6 +232,11 @@ def in_junit():
     expect(found == wanted and "error: missing wait, read after write" in report, f"the cases are {found}")
     found = cases("--seeds", 2, "--", "sh", "-c", "exit 3", status=3)
     expect(found == [("sh, seed 1", ("failure", "the program ends with status 3", ""))], f"the cases are {found}")
+    again = traced("--junit", f"{WORK}/junit.xml", "--seeds", 2, f"--junit={WORK}/junit.xml", "--", "false", env=KNOWN)
+    told("two files of test cases", again, 125, "this option is given twice")
+    for junit in (["--junit", f"{WORK}/junit.xml"], [f"--junit={WORK}/junit.xml"]):
+        again = traced(*junit, "--seeds", 2, "--timeout", 9, "--", "false", env=KNOWN)
+        told("how a run is repeated", again, 1, "dsa_trace --seed 1 --timeout 9 -- false\n")
     found = cases("--audit", "--", "true", status=1)
     expect([it[1][:2] for it in found] == [("failure", "nothing was submitted")], f"the cases are {found}")
     removing = f"{client('unseen')} right; rm $DSA_TRACE_OUT/*"

@@ -125,7 +125,9 @@ static void open_queue(struct bench *b, const struct asked *a)
                                        : strerror(errno));
     b->portal = mmap(NULL, 4096, PROT_WRITE, MAP_SHARED | MAP_POPULATE, file, 0);
     if (b->portal == MAP_FAILED)
-        fail(a->queue, strerror(errno));
+        fail(a->queue, errno == EPERM ? "the kernel lets only programs with CAP_SYS_RAWIO map its portal; without it "
+                                        "the queue is used without batches and fences, so prices change nothing"
+                                      : strerror(errno));
     if (!attribute(a->queue, "mode", mode))
         fail(a->queue, "the driver names no mode of it under /sys/bus/dsa");
     b->is_shared = mode[0] == 's';

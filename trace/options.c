@@ -281,15 +281,15 @@ static void print_word(const char *before, const char *word)
     fputc('\'', stderr);
 }
 
-/// The command line that runs the program once more with one seed.
+/// The command line that runs the program once more with one seed; the test cases of all seeds are kept.
 void options_repeat(const struct options *o, uint64_t seed)
 {
     print_word("", o->words[0]);
     fprintf(stderr, " --seed %llu", (unsigned long long)seed);
     for (char **word = o->words + 1; word < o->program; word++) {
-        if (strcmp(*word, "--seed") == 0 || strcmp(*word, "--seeds") == 0)
+        if (strcmp(*word, "--seed") == 0 || strcmp(*word, "--seeds") == 0 || strcmp(*word, "--junit") == 0)
             word++;
-        else if (strncmp(*word, "--seed", 6) && strcmp(*word, "--"))
+        else if (strncmp(*word, "--seed", 6) && strncmp(*word, "--junit=", 8) && strcmp(*word, "--"))
             print_word(" ", *word);
     }
     fputs(" --", stderr);

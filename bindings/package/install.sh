@@ -38,6 +38,17 @@ take_away() {
     done
 }
 
+# The first file of the package that is in the prefix already, and not by an earlier installation.
+of_others() {
+    installed=$prefix/$list
+    [ -f "$installed" ] || installed=/dev/null
+    cd "$here"
+    find bin include lib share ! -type d | sort | while IFS= read -r path; do
+        [ -e "$prefix/$path" ] || [ -L "$prefix/$path" ] || continue
+        grep -qxF "file $path" "$installed" || { echo "$path"; break; }
+    done
+}
+
 # Copies the package, and notes in the list what was not there before.
 put_there() {
     noted=$(mktemp)
@@ -63,6 +74,8 @@ if [ $remove = yes ]; then
     take_away
 else
     [ -d "$here/bin" ] || fail "$here is not an unpacked package"
+    other=$(of_others)
+    [ -z "$other" ] || fail "$prefix/$other is there, and not of this package: move it away, or name another prefix"
     [ ! -f "$prefix/$list" ] || take_away # an earlier version
     put_there
 fi

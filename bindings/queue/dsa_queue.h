@@ -66,8 +66,9 @@ struct dsa_queue_options {
     uint32_t pieces;             /* the most of one list, at most 65,536; 0: 64. An operation that is longer than the
                                     queue's greatest transfer has several */
     uint32_t wait_ms;            /* milliseconds after which an entry counts as lost; 0: 10,000 */
-    uint64_t lone, batch, fence; /* prices, as in struct dsa_settings; all 0: 10, 14, 3. Else lone and batch are not 0,
-                                    and a fence of 0 costs nothing. dsa_prices measures them */
+    uint64_t lone, batch, fence; /* prices, as in struct dsa_settings, of batches one for all sizes; all 0: 10, 14, 3.
+                                    Else lone and batch are not 0, and a fence of 0 costs nothing. dsa_prices measures
+                                    them: of its table take the price for the size of your usual lists */
 };
 
 /* The most bytes of a sentence, with its zero byte. */

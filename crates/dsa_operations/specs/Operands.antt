@@ -1,4 +1,4 @@
--- The fields of each operation that makes a checksum, in the order of the format's table. A field that an operation does not
+-- The fields of each operation that makes a checksum. A field that an operation does not
 -- have is zero (specification 341204, reserved fields).
 use Rattle.std.specs.Prelude.{ℕ, ◌==◌, Bool, true, false, bit_and}
 use Rattle.dsa_operations.specs.declared.checksum_op.ChecksumOp.{ChecksumOp}

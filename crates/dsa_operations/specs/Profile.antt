@@ -33,8 +33,8 @@ abbrev pub FieldsFit : ChecksumOp → Type 0
 FieldsFit (Crc src seed) = (src < 2 ^ 64) × SeedFits seed
 FieldsFit (CopyCrc src dst seed) = (src < 2 ^ 64) × (dst < 2 ^ 64) × SeedFits seed
 
--- no address of the destination is read: neither of the source nor of a seed in memory, which would be overwritten while it
--- is used (this project's choice)
+-- no address of the destination is read: neither of the source (specification 341204, restrictions, as of a dualcast) nor of a
+-- seed in memory, since it is not said when that is read (this project's choice)
 abbrev pub RegionsApart : ChecksumOp → ℕ → Type 0
 RegionsApart op size = AreApart (targets op size) (sources op size)
 

@@ -10,7 +10,7 @@ abbrev pub sample : ℕ → ChecksumOp → ChecksumFields
 sample flags op =
     record { pasid = 1; privileged = false; flags = flags; record_at = 0x8000; size = 0x100; int_handle = 0; op = op }
 
--- of the bytes at 0x1000, from 0x04030201 on
+-- of the bytes at 0x1000, with the seed 0x04030201
 abbrev pub sample_given : ChecksumFields
 sample_given = sample 0x00000c (Crc 0x1000 (Given 0x04030201))
 
@@ -26,7 +26,7 @@ sample_given_bytes =
     0x01 ∷ 0x02 ∷ 0x03 ∷ 0x04 ∷ []
     ) ++ replicate 20 0
 
--- the same from the four bytes at 0x9010 on
+-- the same with a seed that is read from the four bytes at 0x9010
 abbrev pub sample_in_memory : ChecksumFields
 sample_in_memory = sample 0x01000c (Crc 0x1000 (At 0x9010))
 
@@ -43,7 +43,7 @@ sample_in_memory_bytes =
     0x10 ∷ 0x90 ∷ []
     ) ++ replicate 14 0
 
--- of the bytes at 0x1000, which are copied to 0x2000, from 0 on, neither inverted nor reflected
+-- of the bytes at 0x1000, which are copied to 0x2000, with the seed 0, neither inverted nor reflected
 abbrev pub sample_copy : ChecksumFields
 sample_copy = sample 0x02000c (CopyCrc 0x1000 0x2000 (Given 0))
 

@@ -13,8 +13,8 @@ use dsa_checksum::Variant;
 use dsa_descriptor::{FlagWord, record_span, u32_at, u64_at};
 use dsa_ranges::Touched;
 
-/// A descriptor of a checksum that a list may hold. The ghost field says that its fields meet the profile.
-/// (Specification 341204, descriptor format; `linux/idxd.h`.)
+/// A descriptor of a checksum that a list may hold. The ghost field says that its fields meet the profile, whose rules
+/// are under [`Operation::read`](crate::Operation::read). (Specification 341204, descriptor format; `linux/idxd.h`.)
 #[derive(Clone, Copy)]
 pub struct Checksum {
     /// The PASID, the process address space of all addresses: 20 bits.
@@ -68,7 +68,7 @@ impl Checksum {
         }
     }
 
-    /// The checksum that bytes spell that name this operation and have no fault.
+    /// The checksum that the bytes spell, which name this operation and have no fault.
     pub(crate) fn spelled(bytes: &[u8; 64], op: ChecksumOp) -> Checksum
         requires named { checksum_at bytes.now ≡ Some op }
         requires kept { (fault : FieldFault) → Rule bytes.now op fault }

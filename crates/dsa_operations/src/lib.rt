@@ -1,4 +1,4 @@
-//! The operations that a list may have: those of a descriptor, and the two checksums.
+//! The operations that a list may have: those of a descriptor, and the two that make checksums.
 #![tactic(auto)]
 
 mod checksum;

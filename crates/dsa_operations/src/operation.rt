@@ -25,7 +25,10 @@ impl Operation {
     /// The operation that the 64 bytes spell.
     ///
     /// # Errors
-    /// The first fault of the bytes, in the order of [`FieldFault`]'s numbers.
+    /// The first fault of the bytes, in the order of [`FieldFault`]'s numbers. Of a checksum, `FlagBits` is a flag that
+    /// descriptors may not have either, but for 0x010000, 0x020000 and 0x040000; `Reserved` is also a destination that
+    /// is not copied to, the place of the seed that is not used, or bytes 44 to 47 or 56 to 63; `Overlap` is a
+    /// destination that meets the source or a seed in memory. `Wrap` and `RecordMeetsData` count such a seed as data.
     pub fn read(bytes: &[u8; 64]) -> Result<Operation, FieldFault>
         ensures found { IfOk result (λ operation. bytes.now ≡ spelling_of operation) }
         ensures only { (operation : Operation) →

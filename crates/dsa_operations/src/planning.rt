@@ -63,7 +63,7 @@ fn last_conflicts(
 
 /// The plan of least cost for the operations in their order among those that keep the barriers, with its prices and
 /// pairs. Barriers, and which of several least plans is chosen, are those of [`dsa_search::search_with`]. There may be
-/// at most 65,536 operations.
+/// at most 65,536 operations. None is split: the device refuses one that is longer than its greatest transfer.
 ///
 /// # Errors
 /// An allocation failure.

@@ -2,13 +2,13 @@
 
 use dsa_descriptor::{FieldFault, ListFault};
 use dsa_operations::{
-    OperationList, descriptors_are_fenced_alike, operation_list_reads_back, read_operations,
-    search_operations, write_operations,
+    Operation, OperationList, descriptors_are_fenced_alike, operation_list_reads_back,
+    read_operations, search_operations, write_operations,
 };
 use dsa_plan::Settings;
 use std::test::Fail;
 
-/// The checksum of 256 bytes at 0x1000, from 0 on, record 0x8000.
+/// The checksum of 256 bytes at 0x1000, with the seed 0, record 0x8000.
 const GIVEN: [u8; 64] = [
     0x00, 0x00, 0x00, 0x00, 0x0c, 0x00, 0x00, 0x10, 0x00, 0x80, 0x00, 0x00, 0x00, 0x00, 0x00, 0x00,
     0x00, 0x10, 0x00, 0x00, 0x00, 0x00, 0x00, 0x00, 0x00, 0x00, 0x00, 0x00, 0x00, 0x00, 0x00, 0x00,
@@ -16,7 +16,7 @@ const GIVEN: [u8; 64] = [
     0x00, 0x00, 0x00, 0x00, 0x00, 0x00, 0x00, 0x00, 0x00, 0x00, 0x00, 0x00, 0x00, 0x00, 0x00, 0x00,
 ];
 
-/// The checksum of 256 bytes at 0x1100, from the four bytes at 0x8010 on, record 0x8020.
+/// The checksum of 256 bytes at 0x1100, with the seed that the four bytes at 0x8010 have, record 0x8020.
 const IN_MEMORY: [u8; 64] = [
     0x00, 0x00, 0x00, 0x00, 0x0c, 0x00, 0x01, 0x10, 0x20, 0x80, 0x00, 0x00, 0x00, 0x00, 0x00, 0x00,
     0x00, 0x11, 0x00, 0x00, 0x00, 0x00, 0x00, 0x00, 0x00, 0x00, 0x00, 0x00, 0x00, 0x00, 0x00, 0x00,
@@ -24,24 +24,25 @@ const IN_MEMORY: [u8; 64] = [
     0x10, 0x80, 0x00, 0x00, 0x00, 0x00, 0x00, 0x00, 0x00, 0x00, 0x00, 0x00, 0x00, 0x00, 0x00, 0x00,
 ];
 
-/// A move of 64 bytes from 0x3000 to 0x4000, after a fence, record 0x8040.
-const FENCED_MOVE: [u8; 64] = [
-    0x00, 0x00, 0x00, 0x00, 0x0d, 0x00, 0x00, 0x03, 0x40, 0x80, 0x00, 0x00, 0x00, 0x00, 0x00, 0x00,
+/// A copy of 64 bytes from 0x3000 to 0x4000 with its checksum, which is neither inverted nor reflected, after a fence,
+/// record 0x8040.
+const FENCED_COPY: [u8; 64] = [
+    0x00, 0x00, 0x00, 0x00, 0x0d, 0x00, 0x02, 0x11, 0x40, 0x80, 0x00, 0x00, 0x00, 0x00, 0x00, 0x00,
     0x00, 0x30, 0x00, 0x00, 0x00, 0x00, 0x00, 0x00, 0x00, 0x40, 0x00, 0x00, 0x00, 0x00, 0x00, 0x00,
     0x40, 0x00, 0x00, 0x00, 0x00, 0x00, 0x00, 0x00, 0x00, 0x00, 0x00, 0x00, 0x00, 0x00, 0x00, 0x00,
     0x00, 0x00, 0x00, 0x00, 0x00, 0x00, 0x00, 0x00, 0x00, 0x00, 0x00, 0x00, 0x00, 0x00, 0x00, 0x00,
 ];
 
-/// The two checksums and the move.
-fn two_checksums_and_a_move() -> [u8; 192] {
+/// The two checksums and the copy.
+fn two_checksums_and_a_copy() -> [u8; 192] {
     let mut list = [0; 192];
     list[..64].copy_from_slice(&GIVEN);
     list[64..128].copy_from_slice(&IN_MEMORY);
-    list[128..].copy_from_slice(&FENCED_MOVE);
+    list[128..].copy_from_slice(&FENCED_COPY);
     list
 }
 
-/// The second checksum reads its seed in the record of the first, and the move comes after a barrier. One batch with
+/// The second checksum reads its seed in the record of the first, and the copy comes after a barrier. One batch with
 /// two fences costs 14 + 2 * 3, less than three submissions, or than a batch of two and a lone one; the first two cost
 /// 14 + 3.
 #[test]
@@ -51,9 +52,13 @@ fn checksums_are_planned(rt: HostRuntime) -> Result<(), Fail> {
     let OperationList {
         operations,
         barriers,
-    } = read_operations(alloc, &two_checksums_and_a_move())?;
+    } = read_operations(alloc, &two_checksums_and_a_copy())?;
     assert!(rt; barriers.as_slice() == [false, false, true].as_slice());
     assert!(rt; operations.len() == 3);
+    let Operation::Checksum(copied) = &operations[2] else {
+        panic!(rt; "the third is no checksum");
+    };
+    assert!(rt; copied.variant().bypasses_inversion && !copied.variant().bypasses_data_reflection);
     let found = search_operations(alloc, &operations, &barriers, &settings)?;
     assert!(rt; found.prices.as_slice() == [0, 10, 17, 20].as_slice());
     assert!(rt; found.plan.groups().len() == 1);
@@ -64,7 +69,7 @@ fn checksums_are_planned(rt: HostRuntime) -> Result<(), Fail> {
 #[test]
 fn operations_are_written_as_they_were_read(rt: HostRuntime) -> Result<(), Fail> {
     let alloc = rt.alloc();
-    let bytes = two_checksums_and_a_move();
+    let bytes = two_checksums_and_a_copy();
     let list = read_operations(alloc, &bytes)?;
     assert!(rt; write_operations(alloc, &list)?.as_slice() == bytes.as_slice());
     operation_list_reads_back();
@@ -75,7 +80,7 @@ fn operations_are_written_as_they_were_read(rt: HostRuntime) -> Result<(), Fail>
 /// Only 0x10 and 0x11 make checksums.
 #[test]
 fn another_code_is_refused_at_its_index(rt: HostRuntime) {
-    let mut bytes = two_checksums_and_a_move();
+    let mut bytes = two_checksums_and_a_copy();
     bytes[71] = 0x12;
     let fault = read_operations(rt.alloc(), &bytes).err();
     assert!(rt; fault == Some(ListFault::Field(1, FieldFault::Opcode)));

@@ -309,7 +309,7 @@ def long_names():
 
 
 def in_cpp():
-    """A name in C++ is whole in a key, with its parts in parentheses."""
+    """A name in C++ is whole in a key, with its parts in parentheses, and so is that of a variable in a report."""
     if not shutil.which("g++"):
         skip("places of a C++ program: there is no g++")
         return
@@ -322,6 +322,10 @@ def in_cpp():
     expect(right, f"the keys in C++ are {both}")
     told("one caller in C++", accepted("", both[0], program="placed_cpp"), 1, "): error: missing fence")
     told("both callers in C++", accepted("", *both, program="placed_cpp"), 0)
+    lines = findings(audited(*FIFO, "--", client("placed_cpp")).stdout)[0]["lines"]
+    variable = r"  0x[0-9a-f]+ is \(anonymous namespace\)::\w+, a variable of placed_cpp"
+    named = [it for it in lines if re.fullmatch(variable, it)]
+    expect(len(named) == 1, f"a variable in C++: {lines}")
 
 
 # ---- without names

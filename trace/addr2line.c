@@ -70,8 +70,8 @@ static bool cut_after_line(char *file)
     return last && last[1] >= '1' && last[1] <= '9' && file[0] != '?';
 }
 
-/// Cuts what compilers add to the names of functions: for a copy, and that of Rust a hash.
-static void cut_copy(char *name)
+/// Cuts what compilers add to a name: the end of a copy, and the hash that Rust's have.
+void addr2line_cut(char *name)
 {
     static const char *const ends[] = {".constprop.", ".isra.", ".part.", ".cold", ".lto_priv.", ".llvm.", " [clone"};
     for (size_t i = 0; i < sizeof ends / sizeof *ends; i++) {
@@ -101,7 +101,7 @@ static void add(struct symbol *s, char *line, bool is_of_binutils)
         return;
     if (s->count == 0 && (strcmp(line, "_movdir64b") == 0 || strncmp(line, "_enqcmd", strlen("_enqcmd")) == 0))
         return; /* the compiler's own function for the instruction */
-    cut_copy(line);
+    addr2line_cut(line);
     s->lines[s->count++] = (struct line){strdup(line), has_line ? strdup(shorter(file)) : NULL};
 }
 

@@ -1,12 +1,15 @@
 /* What an address of data is: a variable by the symbols of a file of code, the heap, or a thread's stack. */
+#include <dlfcn.h>
 #include <elf.h>
 #include <fcntl.h>
 #include <inttypes.h>
+#include <stdlib.h>
 #include <string.h>
 #include <sys/mman.h>
 #include <sys/stat.h>
 #include <unistd.h>
 
+#include "addr2line.h"
 #include "launcher.h"
 #include "places.h"
 
@@ -86,6 +89,26 @@ static bool find_variable(const struct file *f, uint64_t at, struct variable *v)
     return false;
 }
 
+/// A name as its language writes it, if the library of C++ is here to read it (Itanium C++ ABI, __cxa_demangle); else
+/// as the file has it; without its version and what compilers add.
+static char *plain_name(const char *name)
+{
+    char *(*demangle)(const char *, char *, size_t *, int *) = NULL;
+    char *known = strndup(name, strcspn(name, "@"));
+    if (!known)
+        fail("places");
+    addr2line_cut(known);
+    void *library = strncmp(known, "_Z", 2) == 0 ? dlopen("libstdc++.so.6", RTLD_NOW) : NULL;
+    if (library)
+        *(void **)&demangle = dlsym(library, "__cxa_demangle");
+    char *plain = demangle ? demangle(known, NULL, NULL, NULL) : NULL;
+    if (!plain)
+        return known;
+    free(known);
+    addr2line_cut(plain);
+    return plain;
+}
+
 /// What an address is, if it is in a variable of a file; else NULL.
 static char *variable_at(const struct mapped *m, uint64_t at)
 {
@@ -98,8 +121,10 @@ static char *variable_at(const struct mapped *m, uint64_t at)
     if (covers(&f, m, at) && find_variable(&f, at, &v)) {
         if (v.distance)
             snprintf(distance, sizeof distance, "+%#" PRIx64, v.distance);
-        if (asprintf(&text, "is %s%s, a variable of %s", v.name, distance, slash + 1) < 0)
+        char *name = plain_name(v.name);
+        if (asprintf(&text, "is %s%s, a variable of %s", name, distance, slash + 1) < 0)
             fail("places");
+        free(name);
     }
     munmap((void *)f.bytes, f.size);
     return text;

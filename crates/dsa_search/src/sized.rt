@@ -327,7 +327,8 @@ fn fill_sizes(sheet: &CostSheet, costs: &mut [u64])
     requires sheet { let g = sheet.now in
         IsSheet g.pairs.now g.rows.now g.lasts.now g.lone g.fence g.table.now }
     requires offers { let g = sheet.now in HasOffers
-        (length g.table.now + 1) (sized_tariff g.lone g.fence g.table.now) g.pairs.now 0 1 costs.old }
+        (length g.table.now + 1) (sized_tariff g.lone g.fence g.table.now)
+        g.pairs.now 0 1 costs.old }
     ensures { let g = sheet.now in IsFilled
         (length g.table.now + 1) (sized_tariff g.lone g.fence g.table.now) g.pairs.now costs.new }
 {

@@ -69,7 +69,7 @@ CASES = {
         {"w s b": {1: (0, 1)}, "wr sr br": {1: (None, 1)}},
     ),
     # not the fenced member has a record, but one after it
-    "behind": (
+    "after": (
         batch(
             entry(MOVE, BLOCK, 0, A, B, 64),
             entry(FILL, FENCE | BLOCK, 0, 7, X, 64),

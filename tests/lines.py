@@ -165,7 +165,7 @@ def long():
         expect_lines(f"{count} blanks without newline", b" " * count, wanted)
     # what fits is read although it is long, and what follows a long line within it is none of a job
     expect_lines("a long job", b" " * (LONGEST - len(job)) + job + b"\n" + job + b"\n", line * 2)
-    expect_lines("a job behind a long line", b" " * LONGEST + job + b"\n" + job + b"\n", TOO_LONG + line)
+    expect_lines("a job after a long line", b" " * LONGEST + job + b"\n" + job + b"\n", TOO_LONG + line)
     with subprocess.Popen([JOBS], stdin=subprocess.PIPE, stdout=subprocess.PIPE) as child:
         for _ in range(700):
             child.stdin.write(b" " * 1000000)

@@ -19,7 +19,7 @@ use Rattle.dsa_audit.specs.Members.{PossibleConflict}
 use Rattle.dsa_audit.specs.Repeats.{OrderMatters}
 use Rattle.dsa_audit.specs.Steps.{AreLasts, IsLastFrom, IsLastOf, IsLeftWithin, IsUnlisted, NoneFrom}
 use Rattle.dsa_audit.proofs.Flags.{fence_within}
-use Rattle.dsa_audit.proofs.Guards.{IsLastGiven, first_behind, given_before, given_here}
+use Rattle.dsa_audit.proofs.Guards.{IsLastGiven, first_after, given_before, given_here}
 
 -- ---- the last conflict of each member is enough
 
@@ -37,7 +37,7 @@ separated_by : (C : ℕ → ℕ → Type 0) (lasts : List (Option ℕ)) (h : Gro
 separated_by C lasts h a b None are at ordered conflict separates = absurd (are b None at a (ordered, conflict))
 separated_by C lasts h a b (Some l) are at ordered conflict separates =
     let p = separates l at in
-    record { at = p.at; behind = omega (arith, p.behind, (are b (Some l) at).1 a (ordered, conflict)); up_to = p.up_to; fence = p.fence }
+    record { at = p.at; after = omega (arith, p.after, (are b (Some l) at).1 a (ordered, conflict)); up_to = p.up_to; fence = p.fence }
 
 pub corrected_of : (C : ℕ → ℕ → Type 0) (lasts : List (Option ℕ)) (g : Group) (places : List FencePlace) (h : Group) → length lasts ≡ length g → AreLasts C lasts
     → IsCorrected (IsLastOf lasts) g places h → IsCorrected C g places h
@@ -59,8 +59,8 @@ left_of C A g places h is =
     record {
       more = is.more;
       separates = λ a b ordered within (conflict, unaccepted).
-          elim (first_behind g a b) [
-            | inl q ↦ record { at = q.place; behind = q.behind; up_to = q.up_to; fence = is.more.fences q.place q.fence }
+          elim (first_after g a b) [
+            | inl q ↦ record { at = q.place; after = q.after; up_to = q.up_to; fence = is.more.fences q.place q.fence }
             | inr share ↦ is.separates a b ordered within ((conflict, λ lists. unaccepted (share, lists)), share)
           ];
       least = λ other more separates.
@@ -87,7 +87,7 @@ left_greatest C A g epoch at o begun is = found o is where
       ]
 
   share : (a : ℕ) → epoch ≤ a → ShareEpoch g a at
-  share a le k after up_to f = begun.open_behind k (omega arith) (omega arith) f
+  share a le k after up_to f = begun.open_after k (omega arith) (omega arith) f
 
   found : (p : Option ℕ) → MatchOption p (NoneFrom (IsUnlisted C A) epoch at at) (λ i. IsLastFrom (IsUnlisted C A) epoch at at i)
       → IsGreatest (λ a. (a < at) × IsLeftWithin C A g a at) p
@@ -114,7 +114,7 @@ left_start C A later i last =
     record {
       before = last.0.0;
       conflict = last.0.1;
-      apart = λ x behind up_to left. omega (arith, behind, last.1 x (up_to, left.0));
+      apart = λ x after up_to left. omega (arith, after, last.1 x (up_to, left.0));
     }
 
 pub left_none : (C A : ℕ → ℕ → Type 0) (epoch later : ℕ) → IsGreatest (λ a. (a < later) × C a later) None → NoneFrom (IsUnlisted C A) epoch later later
@@ -128,7 +128,7 @@ left_here C A epoch later i s begun unlisted =
 after_listed : (C A : ℕ → ℕ → Type 0) (later i x : ℕ) → LeftFrom C A later i → A i later → i ≤ x → x < later → ¬ IsUnlisted C A x later
 after_listed C A later i x s listed from up_to left =
     elim (cases_lt i x) [
-      | inl behind ↦ s.apart x behind up_to left
+      | inl after ↦ s.apart x after up_to left
       | inr here ↦ let same : i ≡ x = omega (arith, from, here) in left.1 (subst (λ (z : ℕ). A z later) same listed)
     ]
 
@@ -137,9 +137,9 @@ left_next C A later i next s listed last =
     record {
       before = omega (arith, last.0.0, s.before);
       conflict = last.0.1;
-      apart = λ x behind up_to left.
+      apart = λ x after up_to left.
           elim (cases_lt x i) [
-            | inl early ↦ omega (arith, behind, last.1 x (early, left.0))
+            | inl early ↦ omega (arith, after, last.1 x (early, left.0))
             | inr from ↦ after_listed C A later i x s listed from up_to left
           ];
     }
@@ -166,7 +166,7 @@ module _ (C D : ℕ → ℕ → Type 0) (g : Group) where
   one_way places h h' k (fence_place.Missing i) more before given separates within is f =
       let p = separates i k is.before within (more i k is.conflict) in
       elim (cases_lt p.at k) [
-        | inl early ↦ absurd (is.alone p.at p.behind early (before p.at early p.fence))
+        | inl early ↦ absurd (is.alone p.at p.after early (before p.at early p.fence))
         | inr from ↦ let e : p.at ≡ k = omega (arith, p.up_to) in subst (HasFence h') e p.fence
       ]
 
@@ -200,10 +200,10 @@ module _ (C : ℕ → ℕ → Type 0) (bs vs ks ks' : List Bool) (g g' h h' : Gr
     (is : IsReduced C bs vs ks g uses h) (is' : IsReduced C bs vs ks' g' uses' h') (held : (k : ℕ) → IsHeld ks k → HasFence h' k) where
   needed_too : (k i j : ℕ) → ((p : ℕ) → p < k → HasFence h' p → HasFence h p) → IsNeeded C g h k i j → HasFence h' k
   needed_too k i j before n =
-      let p = is'.separates i j (omega (arith, n.before, n.behind)) (omega (arith, n.within, long)) n.conflict
-      (record { at = k; behind = n.before; up_to = n.behind; fence = (same k).0 n.given }) in
+      let p = is'.separates i j (omega (arith, n.before, n.after)) (omega (arith, n.within, long)) n.conflict
+      (record { at = k; after = n.before; up_to = n.after; fence = (same k).0 n.given }) in
       elim (cases_lt p.at k) [
-        | inl early ↦ absurd (n.alone_before p.at p.behind early (before p.at early p.fence))
+        | inl early ↦ absurd (n.alone_before p.at p.after early (before p.at early p.fence))
         | inr from ↦
             elim (cases_eq p.at k) [
               | inl e ↦ subst (HasFence h') e p.fence
@@ -213,18 +213,18 @@ module _ (C : ℕ → ℕ → Type 0) (bs vs ks ks' : List Bool) (g g' h h' : Gr
 
   guard_too : (k m : ℕ) → HasFence g k → (m < k) → (get_or bs m false ≡ true) → ((n : ℕ) → m < n → n < k → ¬ HasFence g n) → HasFence h' k
   guard_too k m given before fails clear =
-      let p = is'.guards m k fails (fence_within g' k ((same k).0 given)) (record { at = k; behind = before; up_to = omega arith; fence = (same k).0 given }) in
+      let p = is'.guards m k fails (fence_within g' k ((same k).0 given)) (record { at = k; after = before; up_to = omega arith; fence = (same k).0 given }) in
       elim (cases_lt p.at k) [
-        | inl early ↦ absurd (clear p.at p.behind early ((same p.at).1 (is'.less.fences p.at p.fence)))
+        | inl early ↦ absurd (clear p.at p.after early ((same p.at).1 (is'.less.fences p.at p.fence)))
         | inr from ↦ let e : p.at ≡ k = omega (arith, p.up_to) in subst (HasFence h') e p.fence
       ]
 
   signal_too : (k j : ℕ) → HasFence g k → 0 < k → k ≤ j → j < length g → (get_or vs j false ≡ true) → ShareEpoch g k j → HasFence h' k
   signal_too k j given later from within shows clear =
-      let p = is'.signals (k - 1) j shows (omega (arith, within, long)) (record { at = k; behind = omega (arith, later); up_to = from; fence = (same k).0 given }) in
+      let p = is'.signals (k - 1) j shows (omega (arith, within, long)) (record { at = k; after = omega (arith, later); up_to = from; fence = (same k).0 given }) in
       elim (cases_lt k p.at) [
         | inl after ↦ absurd (clear p.at after p.up_to ((same p.at).1 (is'.less.fences p.at p.fence)))
-        | inr up_to ↦ let e : p.at ≡ k = omega (arith, p.behind, later) in subst (HasFence h') e p.fence
+        | inr up_to ↦ let e : p.at ≡ k = omega (arith, p.after, later) in subst (HasFence h') e p.fence
       ]
 
   kept_too : (k : ℕ) (u : FenceUse) → ((p : ℕ) → p < k → HasFence h' p → HasFence h p) → UseHolds C bs vs ks g h k u → HasFence h k → HasFence h' k

@@ -37,7 +37,7 @@ pushed_old xs x k lt h =
     ]
 
 pub separated_pushed : (xs : Group) (x : Bool) (a b : ℕ) → IsSeparated xs a b → IsSeparated (xs ++ x ∷ []) a b
-separated_pushed xs x a b p = record { at = p.at; behind = p.behind; up_to = p.up_to; fence = pushed_before xs x p.at p.fence }
+separated_pushed xs x a b p = record { at = p.at; after = p.after; up_to = p.up_to; fence = pushed_before xs x p.at p.fence }
 
 one : (xs : Group) → fence_count (true ∷ xs) ≡ fence_count xs + 1
 one xs =

@@ -5,18 +5,18 @@ use Rattle.dsa_settings.specs.Plan.{Group}
 use Rattle.dsa_audit.specs.Audits.{HasFence, IsSeparated, ShareEpoch, KeepsGuards, KeepsSignals, IsGuard, IsFirstGuard, GuardsNone, IsSignal, IsFirstSignal, SignalsNone}
 use Rattle.dsa_audit.specs.Steps.{NoneSet, IsFirstSet, IsNextFence, NoneShown, IsFirstShown}
 
-pub record IsFirstBehind (g : Group) (a b : ℕ) : Type 0 where
+pub record IsFirstAfter (g : Group) (a b : ℕ) : Type 0 where
   pub place : ℕ
-  pub behind : a < place
+  pub after : a < place
   pub up_to : place ≤ b
   pub fence : HasFence g place
   pub open_between : (n : ℕ) → a < n → n < place → ¬ HasFence g n
 
-pub first_behind : (g : Group) (a b : ℕ) → IsFirstBehind g a b ⊎ ShareEpoch g a b
-first_behind g a zero = inr (λ k after up_to f. absurd (omega arith))
-first_behind g a (suc b) =
-    elim (first_behind g a b) [
-      | inl p ↦ inl (record { place = p.place; behind = p.behind; up_to = omega (arith, p.up_to); fence = p.fence; open_between = p.open_between })
+pub first_after : (g : Group) (a b : ℕ) → IsFirstAfter g a b ⊎ ShareEpoch g a b
+first_after g a zero = inr (λ k after up_to f. absurd (omega arith))
+first_after g a (suc b) =
+    elim (first_after g a b) [
+      | inl p ↦ inl (record { place = p.place; after = p.after; up_to = omega (arith, p.up_to); fence = p.fence; open_between = p.open_between })
       | inr share ↦
           elim (cases_Bool (get_or g (suc b) false)) [
             | inl fence ↦
@@ -24,7 +24,7 @@ first_behind g a (suc b) =
                   | inl less ↦
                       inl (record {
                         place = suc b;
-                        behind = less;
+                        after = less;
                         up_to = omega arith;
                         fence = fence;
                         open_between = λ n after before. share n after (omega arith);
@@ -43,15 +43,15 @@ first_behind g a (suc b) =
 -- a group that has the first fence after each member that can fail abandons the same members
 pub keeps_guards : (bs : List Bool) (g h : Group) → ((m k : ℕ) → k < length g → IsGuard bs g k m → HasFence g k → HasFence h k) → KeepsGuards bs g h
 keeps_guards bs g h kept m b fails within p =
-    elim (first_behind g m b) [
+    elim (first_after g m b) [
       | inl q ↦
           record {
             at = q.place;
-            behind = q.behind;
+            after = q.after;
             up_to = q.up_to;
-            fence = kept m q.place (omega (arith, q.up_to)) (record { before = q.behind; fails = fails; open_between = q.open_between }) q.fence;
+            fence = kept m q.place (omega (arith, q.up_to)) (record { before = q.after; fails = fails; open_between = q.open_between }) q.fence;
           }
-      | inr share ↦ absurd (share p.at p.behind p.up_to p.fence)
+      | inr share ↦ absurd (share p.at p.after p.up_to p.fence)
     ]
 
 -- the last fence before `at` is at `last`, or there is none and `last` is 0
@@ -59,7 +59,7 @@ pub record IsLastGiven (g : Group) (at last : ℕ) : Type 0 where
   pub up_to : last ≤ at
   pub below : 0 < last → last < at
   pub starts : 0 < last → HasFence g last
-  pub open_behind : (k : ℕ) → last < k → k < at → ¬ HasFence g k
+  pub open_after : (k : ℕ) → last < k → k < at → ¬ HasFence g k
 
 pub given_none : (g : Group) → IsLastGiven g 0 0
 given_none g =
@@ -67,7 +67,7 @@ given_none g =
       up_to = omega arith;
       below = λ some. absurd (omega arith);
       starts = λ some. absurd (omega arith);
-      open_behind = λ k after before f. absurd (omega arith);
+      open_after = λ k after before f. absurd (omega arith);
     }
 
 pub given_here : (g : Group) (at : ℕ) → HasFence g at → IsLastGiven g (at + 1) at
@@ -76,7 +76,7 @@ given_here g at fenced =
       up_to = omega arith;
       below = λ some. omega arith;
       starts = λ some. fenced;
-      open_behind = λ k after before f. absurd (omega arith);
+      open_after = λ k after before f. absurd (omega arith);
     }
 
 pub given_before : (g : Group) (at last : ℕ) → IsLastGiven g at last → ¬ HasFence g at → IsLastGiven g (at + 1) last
@@ -85,9 +85,9 @@ given_before g at last s none =
       up_to = omega (arith, s.up_to);
       below = λ some. let l : last < at = s.below some in omega arith;
       starts = s.starts;
-      open_behind = λ k after before f.
+      open_after = λ k after before f.
           elim (cases_lt k at) [
-            | inl less ↦ s.open_behind k after less f
+            | inl less ↦ s.open_after k after less f
             | inr more ↦ let e : k ≡ at = omega arith in none (subst (HasFence g) e f)
           ];
     }
@@ -111,7 +111,7 @@ first_guards bs g at last m s is =
       guard = record {
         before = is.ends;
         fails = is.here;
-        open_between = λ n after before. s.open_behind n (omega (arith, is.begun)) before;
+        open_between = λ n after before. s.open_after n (omega (arith, is.begun)) before;
       };
       first = λ n before other.
           elim (cases_lt n last) [
@@ -124,7 +124,7 @@ first_guards bs g at last m s is =
 pub guard_stays : (bs : List Bool) (g other : Group) (at m : ℕ) → ((k : ℕ) → HasFence other k → HasFence g k) → HasFence g at → IsGuard bs g at m → IsSeparated other m at → HasFence other at
 guard_stays bs g other at m less fenced is p =
     elim (cases_lt p.at at) [
-      | inl early ↦ absurd (is.open_between p.at p.behind early (less p.at p.fence))
+      | inl early ↦ absurd (is.open_between p.at p.after early (less p.at p.fence))
       | inr from ↦ let e : p.at ≡ at = omega (arith, p.up_to) in subst (HasFence other) e p.fence
     ]
 
@@ -132,7 +132,7 @@ guard_stays bs g other at m less fenced is p =
 
 pub record IsLastUpTo (g : Group) (a b : ℕ) : Type 0 where
   pub place : ℕ
-  pub behind : a < place
+  pub after : a < place
   pub up_to : place ≤ b
   pub fence : HasFence g place
   pub open_after : ShareEpoch g place b
@@ -146,7 +146,7 @@ last_up_to g a (suc b) =
             | inl less ↦
                 inl (record {
                   place = suc b;
-                  behind = less;
+                  after = less;
                   up_to = omega arith;
                   fence = fence;
                   open_after = λ k after up_to f. absurd (omega arith);
@@ -160,7 +160,7 @@ last_up_to g a (suc b) =
             | inl p ↦
                 inl (record {
                   place = p.place;
-                  behind = p.behind;
+                  after = p.after;
                   up_to = omega (arith, p.up_to);
                   fence = p.fence;
                   open_after = λ k after up_to f.
@@ -185,17 +185,17 @@ keeps_signals vs g h kept a b shows within p =
       | inl q ↦
           record {
             at = q.place;
-            behind = q.behind;
+            after = q.after;
             up_to = q.up_to;
             fence = kept q.place b (omega (arith, q.up_to)) (record {
-              later = omega (arith, q.behind);
+              later = omega (arith, q.after);
               from = q.up_to;
               within = within;
               shows = shows;
               open_between = q.open_after;
             }) q.fence;
           }
-      | inr share ↦ absurd (share p.at p.behind p.up_to p.fence)
+      | inr share ↦ absurd (share p.at p.after p.up_to p.fence)
     ]
 
 -- what is after the next fence shows nothing by this one
@@ -225,9 +225,9 @@ first_signals vs g at end j next (later, is) =
 -- whatever keeps what members that show wait for has the fence itself, of those given
 pub signal_stays : (vs : List Bool) (g other : Group) (at j : ℕ) → ((k : ℕ) → HasFence other k → HasFence g k) → HasFence g at → IsSignal vs g at j → KeepsSignals vs g other → HasFence other at
 signal_stays vs g other at j less fenced is keeps =
-    let behind : at - 1 < at = omega (arith, is.later) in
-    let p = keeps (at - 1) j is.shows is.within (record { at = at; behind = behind; up_to = is.from; fence = fenced }) in
+    let below : at - 1 < at = omega (arith, is.later) in
+    let p = keeps (at - 1) j is.shows is.within (record { at = at; after = below; up_to = is.from; fence = fenced }) in
     elim (cases_lt at p.at) [
       | inl after ↦ absurd (is.open_between p.at after p.up_to (less p.at p.fence))
-      | inr up_to ↦ let e : p.at ≡ at = omega (arith, p.behind, is.later) in subst (HasFence other) e p.fence
+      | inr up_to ↦ let e : p.at ≡ at = omega (arith, p.after, is.later) in subst (HasFence other) e p.fence
     ]

@@ -32,20 +32,20 @@ given_at : (K : ℕ → ℕ → Type 0) (ms : List Member) (bs vs ks : List Bool
 given_at K ms bs vs ks g h k uses m NoFence can same within reduced here gone is = absurd (is.1 here)
 given_at K ms bs vs ks g h k uses m Given can same within reduced here gone is = is.0
 given_at K ms bs vs ks g h k uses m (Missing i) can same within reduced here gone is =
-    let p = reduced.separates i m is.before (omega arith) (can i m is.conflict) (record { at = m; behind = is.before; up_to = omega arith; fence = here }) in
+    let p = reduced.separates i m is.before (omega arith) (can i m is.conflict) (record { at = m; after = is.before; up_to = omega arith; fence = here }) in
     elim (cases_lt p.at m) [
-      | inl before ↦ absurd (is.alone p.at p.behind before (reduced.less.fences p.at p.fence))
+      | inl before ↦ absurd (is.alone p.at p.after before (reduced.less.fences p.at p.fence))
       | inr from ↦ let e : p.at ≡ m = omega (arith, p.up_to) in absurd (gone (subst (HasFence k) e p.fence))
     ]
 
 same_starts : (ms : List Member) (bs vs ks : List Bool) (h k : Group) (uses : List FenceUse) (failed : ℕ → Bool) (b : ℕ) → IsReduced (PossibleConflict ms) bs vs ks h uses k
     → AllCanFail bs failed → Starts failed h b ↔ Starts failed k b
 same_starts ms bs vs ks h k uses failed b reduced can = (
-  (λ starts a fails p. starts a fails (record { at = p.at; behind = p.behind; up_to = p.up_to; fence = reduced.less.fences p.at p.fence })),
+  (λ starts a fails p. starts a fails (record { at = p.at; after = p.after; up_to = p.up_to; fence = reduced.less.fences p.at p.fence })),
   (λ starts a fails p.
       let up_to : p.at ≤ p.at = omega arith in
-      let q = reduced.guards a p.at (can a fails) (fence_within h p.at p.fence) (record { at = p.at; behind = p.behind; up_to = up_to; fence = p.fence }) in
-      starts a fails (record { at = q.at; behind = q.behind; up_to = omega (arith, q.up_to, p.up_to); fence = q.fence })),
+      let q = reduced.guards a p.at (can a fails) (fence_within h p.at p.fence) (record { at = p.at; after = p.after; up_to = up_to; fence = p.fence }) in
+      starts a fails (record { at = q.at; after = q.after; up_to = omega (arith, q.up_to, p.up_to); fence = q.fence })),
 )
 
 pub held : (acts : List Action) (ds ms : List Member) (bs vs ks : List Bool) (T A : ℕ → ℕ → Type 0) (g h k : Group) (places : List FencePlace) (uses : List FenceUse)
@@ -65,11 +65,11 @@ held acts ds ms bs vs ks T A g h k places uses between corrected reduced =
       starts = λ failed b can. same_starts ms bs vs ks h k uses failed b reduced can;
       shows = λ a b shows within. (
         reduced.signals a b shows (omega (arith, within, corrected.more.same_length)),
-        (λ p. record { at = p.at; behind = p.behind; up_to = p.up_to; fence = reduced.less.fences p.at p.fence }),
+        (λ p. record { at = p.at; after = p.after; up_to = p.up_to; fence = reduced.less.fences p.at p.fence }),
       );
       recorded = λ a b shows within p.
           reduced.signals a b shows (omega (arith, within, corrected.more.same_length))
-          (record { at = p.at; behind = p.behind; up_to = p.up_to; fence = corrected.more.fences p.at p.fence });
+          (record { at = p.at; after = p.after; up_to = p.up_to; fence = corrected.more.fences p.at p.fence });
     }
 
 -- what keeps more is one of the groups among which the least is
@@ -90,7 +90,7 @@ separates C start g apart a b pair =
     let moved : slice_get g ((start + p.at) - start) ≡ slice_get g p.at = ap (slice_get g) place in
     let here : slice_get g p.at ≡ Some (get_or g p.at false) = slice_get-get_or g p.at false (fence_within g p.at p.fence) in (
       start + p.at,
-      omega (arith, pair.starts, p.behind),
+      omega (arith, pair.starts, p.after),
       omega (arith, pair.starts, pair.ordered, p.up_to),
       (omega arith, moved ∙ (here ∙ ap Some p.fence)),
     )

@@ -38,7 +38,7 @@ late_of lasts epoch at later l here high i begun ends last = let same : l ≡ i 
 
 pub one_of : (lasts : List (Option ℕ)) (epoch at later l : ℕ) → slice_get lasts later ≡ Some (Some l) → epoch ≤ l → l < at → IsLastFrom (IsLastOf lasts) epoch at later l
 one_of lasts epoch at later l here begun ends =
-    record { begun = begun; ends = ends; conflict = here; last = λ k behind up_to last. let same : l ≡ k = cc in omega (arith, behind, same) }
+    record { begun = begun; ends = ends; conflict = here; last = λ k after up_to last. let same : l ≡ k = cc in omega (arith, after, same) }
 
 -- ---- known conflicts are those of the spans that are known
 

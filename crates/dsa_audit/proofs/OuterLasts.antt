@@ -10,7 +10,7 @@ use Rattle.dsa_audit.specs.declared.needless.FenceUse.{FenceUse}
 use Rattle.dsa_audit.specs.declared.needless.FenceUse.TheVariants as fence_use
 use Rattle.dsa_audit.specs.Audits.{IsReduced, IsSeparated, IsSpared, UseHolds}
 use Rattle.dsa_audit.specs.Steps.{AreLasts, IsLastOf, IsOuterConflict}
-use Rattle.dsa_audit.proofs.Guards.{IsLastGiven, first_behind}
+use Rattle.dsa_audit.proofs.Guards.{IsLastGiven, first_after}
 
 -- the last conflict of all, as the last before an epoch
 pub none_before : (C : ℕ → ℕ → Type 0) (epoch later : ℕ) → epoch ≤ later → IsGreatest (λ a. (a < later) × C a later) None → IsGreatest (λ a. (a < epoch) × C a later) None
@@ -27,10 +27,10 @@ outer_greatest C g epoch at o begun h =
     (λ a (lt, conflict).
     let some : 0 < epoch = omega (arith, lt) in
     let up_to : epoch < at + 1 = begun.below some in
-    (omega (arith, lt, up_to), (conflict, record { at = epoch; behind = lt; up_to = omega (arith, up_to); fence = begun.starts some })))
+    (omega (arith, lt, up_to), (conflict, record { at = epoch; after = lt; up_to = omega (arith, up_to); fence = begun.starts some })))
     (λ a (lt, (conflict, p)). elim (cases_lt a epoch) [
       | inl before ↦ (before, conflict)
-      | inr from ↦ absurd (begun.open_behind p.at (omega (arith, from, p.behind)) (omega (arith, p.up_to)) p.fence)
+      | inr from ↦ absurd (begun.open_after p.at (omega (arith, from, p.after)) (omega (arith, p.up_to)) p.fence)
     ])
     h
 
@@ -63,25 +63,25 @@ module _ (C : ℕ → ℕ → Type 0) (outers : List (Option ℕ)) (g : Group) (
       reached_by a b (get_or outers b None) (slice_get-get_or outers b None (omega (arith, long, within))) lt conflict p
 
   from_last : (h : Group) (a l b : ℕ) → a ≤ l → IsSeparated h l b → IsSeparated h a b
-  from_last h a l b from p = record { at = p.at; behind = omega (arith, from, p.behind); up_to = p.up_to; fence = p.fence }
+  from_last h a l b from p = record { at = p.at; after = omega (arith, from, p.after); up_to = p.up_to; fence = p.fence }
 
   spared_by : (h : Group) (k : ℕ) → IsSpared (IsLastOf outers) g h k → IsSpared C g h k
   spared_by h k is =
       record {
         given = is.given;
         stays = is.stays;
-        unneeded = λ i j before behind within conflict.
-            elim (first_behind g k j) [
-              | inl q ↦ inr (record { at = q.place; behind = q.behind; up_to = q.up_to; fence = q.fence })
+        unneeded = λ i j before after within conflict.
+            elim (first_after g k j) [
+              | inl q ↦ inr (record { at = q.place; after = q.after; up_to = q.up_to; fence = q.fence })
               | inr share ↦
-                  let r = reached i j within (omega (arith, before, behind)) conflict (record { at = k; behind = before; up_to = behind; fence = is.given }) in
+                  let r = reached i j within (omega (arith, before, after)) conflict (record { at = k; after = before; up_to = after; fence = is.given }) in
                   elim (cases_lt r.last k) [
                     | inl early ↦
-                        elim (is.unneeded r.last j early behind within r.is) [
+                        elim (is.unneeded r.last j early after within r.is) [
                           | inl here ↦ inl (from_last h i r.last (k - 1) r.from here)
                           | inr there ↦ inr there
                         ]
-                    | inr late ↦ absurd (share r.separated.at (omega (arith, late, r.separated.behind)) r.separated.up_to r.separated.fence)
+                    | inr late ↦ absurd (share r.separated.at (omega (arith, late, r.separated.after)) r.separated.up_to r.separated.fence)
                   ]
             ];
       }
@@ -96,7 +96,7 @@ module _ (C : ℕ → ℕ → Type 0) (outers : List (Option ℕ)) (g : Group) (
   use_by bs vs ks h k (fence_use.Needed i j) is =
       record {
         before = is.before;
-        behind = is.behind;
+        after = is.after;
         within = is.within;
         conflict = (are j (Some i) is.conflict).0.1.0;
         given = is.given;

@@ -22,7 +22,7 @@ pub record IsLater (g : Group) (at b : ℕ) : Type 0 where
 pub record Reducing (C : ℕ → ℕ → Type 0) (bs vs ks : List Bool) (g : Group) (at last epoch : ℕ) (us : List FenceUse) (h : Group) : Type 0 where
   pub count : length h ≡ at
   pub uses : length us ≡ at
-  pub behind : epoch ≤ at
+  pub up_to : epoch ≤ at
   pub starts : 0 < epoch → HasFence h epoch
   pub opened : (k : ℕ) → epoch < k → ¬ HasFence h k
   pub given : (k : ℕ) → HasFence h k → HasFence g k
@@ -39,8 +39,8 @@ spared_pushed C g h x k is =
     record {
       given = is.given;
       stays = pushed_before h x k is.stays;
-      unneeded = λ i j before behind within conflict.
-          elim (is.unneeded i j before behind within conflict) [
+      unneeded = λ i j before after within conflict.
+          elim (is.unneeded i j before after within conflict) [
             | inl here ↦ inl (separated_pushed h x i (k - 1) here)
             | inr there ↦ inr there
           ];
@@ -56,7 +56,7 @@ use_pushed C bs vs ks g h x k (fence_use.GuardingAndSignalling m j) lt (is, guar
 use_pushed C bs vs ks g h x k (fence_use.Needed i j) lt is =
     record {
       before = is.before;
-      behind = is.behind;
+      after = is.after;
       within = is.within;
       conflict = is.conflict;
       given = is.given;
@@ -98,7 +98,7 @@ dropped_next C bs vs ks g at last next epoch us h u s is spare safe mute loose b
     record {
       count = omega (arith, s.count, length-append h (false ∷ []));
       uses = omega (arith, s.uses, length-append us (u ∷ []));
-      behind = omega (arith, s.behind);
+      up_to = omega (arith, s.up_to);
       starts = λ some. pushed_before h false epoch (s.starts some);
       opened = λ k after f.
           elim (pushed_back h false k f) [
@@ -118,7 +118,7 @@ dropped_next C bs vs ks g at last next epoch us h u s is spare safe mute loose b
                   | inl separated ↦ inl (separated_pushed h false a b separated)
                   | inr later ↦
                       elim (cases_lt at later.place) [
-                        | inl behind ↦ inr (record { place = later.place; from = omega arith; up_to = later.up_to; fence = later.fence })
+                        | inl beyond ↦ inr (record { place = later.place; from = omega arith; up_to = later.up_to; fence = later.fence })
                         | inr at_most ↦
                             let e : later.place ≡ at = omega (arith, later.from) in
                             spare a b within conflict (omega arith) (omega (arith, later.up_to)) (subst (HasFence g) e later.fence)
@@ -161,7 +161,7 @@ kept_next C bs vs ks g at last epoch us h u s fenced is more_of =
     record {
       count = omega (arith, s.count, length-append h (true ∷ []));
       uses = omega (arith, s.uses, length-append us (u ∷ []));
-      behind = omega arith;
+      up_to = omega arith;
       starts = λ some. pushed_last h at s.count;
       opened = λ k after f.
           elim (pushed_back h true k f) [
@@ -175,11 +175,11 @@ kept_next C bs vs ks g at last epoch us h u s fenced is more_of =
           ];
       separates = λ a b m within conflict after up_to below f.
           elim (cases_lt m at) [
-            | inr more ↦ inl (record { at = at; behind = omega arith; up_to = omega arith; fence = pushed_last h at s.count })
+            | inr more ↦ inl (record { at = at; after = omega arith; up_to = omega arith; fence = pushed_last h at s.count })
             | inl less ↦
                 elim (s.separates a b m within conflict after up_to less f) [
                   | inl separated ↦ inl (separated_pushed h true a b separated)
-                  | inr later ↦ inl (record { at = at; behind = omega arith; up_to = omega (arith, later.from, later.up_to); fence = pushed_last h at s.count })
+                  | inr later ↦ inl (record { at = at; after = omega arith; up_to = omega (arith, later.from, later.up_to); fence = pushed_last h at s.count })
                 ]
           ];
       begins = given_here g at fenced;
@@ -202,7 +202,7 @@ kept_next C bs vs ks g at last epoch us h u s fenced is more_of =
           let l = s.least other less separates keeps shows holds in
           let p = more_of other less separates keeps shows holds in
           let c : fence_count (take l.end other) + 1 ≤ fence_count (take (at + 1) other) =
-          count_more other l.end p.place (at + 1) (p.behind l.end l.within l.up_to) (omega (arith, p.up_to)) p.fence in
+          count_more other l.end p.place (at + 1) (p.after l.end l.within l.up_to) (omega (arith, p.up_to)) p.fence in
           record {
             end = at + 1;
             within = omega arith;
@@ -218,7 +218,7 @@ needed_next C bs vs ks g at last epoch us h i j s fenced witness =
     kept_next C bs vs ks g at last epoch us h (fence_use.Needed i j) s fenced
     (record {
       before = witness.before;
-      behind = witness.behind;
+      after = witness.after;
       within = witness.within;
       conflict = witness.conflict;
       given = fenced;
@@ -227,13 +227,13 @@ needed_next C bs vs ks g at last epoch us h i j s fenced witness =
       alone_after = witness.open_after;
     })
     (λ other less separates keeps shows holds.
-    let p = separates i j (omega (arith, witness.before, witness.behind)) witness.within witness.conflict (record { at = at; behind = witness.before; up_to = witness.behind; fence = fenced }) in
+    let p = separates i j (omega (arith, witness.before, witness.after)) witness.within witness.conflict (record { at = at; after = witness.before; up_to = witness.after; fence = fenced }) in
     elim (cases_lt at p.at) [
       | inl after ↦ absurd (witness.open_after p.at after p.up_to (less.fences p.at p.fence))
       | inr up_to ↦
           record {
             place = p.at;
-            behind = λ e within up_to. omega (arith, p.behind, witness.begun);
+            after = λ e within up_to. omega (arith, p.after, witness.begun);
             up_to = omega arith;
             fence = p.fence;
           }
@@ -246,15 +246,15 @@ spared_here C bs vs ks g at last epoch us h s fenced spare =
     record {
       given = fenced;
       stays = pushed_last h at s.count;
-      unneeded = λ i j ahead behind within conflict.
+      unneeded = λ i j ahead after within conflict.
           elim (cases_lt i epoch) [
-            | inr from ↦ inr (spare i j from ahead behind within conflict)
+            | inr from ↦ inr (spare i j from ahead after within conflict)
             | inl early ↦
                 elim (cases_lt epoch at) [
                   | inl less ↦
                       inl (record {
                         at = epoch;
-                        behind = early;
+                        after = early;
                         up_to = omega arith;
                         fence = pushed_before h true epoch (s.starts (omega arith));
                       })
@@ -267,13 +267,13 @@ spared_here C bs vs ks g at last epoch us h s fenced spare =
 
 -- a further fence of another group is at `at`
 more_at : (at epoch : ℕ) (other : Group) → HasFence other at → IsMore at epoch other
-more_at at epoch other fence = record { place = at; behind = λ e within up_to. within; up_to = omega arith; fence = fence }
+more_at at epoch other fence = record { place = at; after = λ e within up_to. within; up_to = omega arith; fence = fence }
 
 guards_more : (C : ℕ → ℕ → Type 0) (bs vs ks : List Bool) (g : Group) (at epoch m : ℕ) → HasFence g at → IsFirstGuard bs g at m
     → (other : Group) → HasFencesOf other g → SeparatesAsMuch C g other → KeepsGuards bs g other → KeepsSignals vs g other → KeepsHeld ks g other → IsMore at epoch other
 guards_more C bs vs ks g at epoch m fenced first other less separates keeps shows holds =
     let up_to : at ≤ at = omega arith in
-    let p = keeps m at first.guard.fails (fence_within g at fenced) (record { at = at; behind = first.guard.before; up_to = up_to; fence = fenced }) in
+    let p = keeps m at first.guard.fails (fence_within g at fenced) (record { at = at; after = first.guard.before; up_to = up_to; fence = fenced }) in
     more_at at epoch other (guard_stays bs g other at m less.fences fenced first.guard p)
 
 signals_more : (C : ℕ → ℕ → Type 0) (bs vs ks : List Bool) (g : Group) (at epoch j : ℕ) → HasFence g at → IsFirstSignal vs g at j
@@ -285,25 +285,25 @@ pub reducing_next : (C : ℕ → ℕ → Type 0) (bs vs ks : List Bool) (g : Gro
     → Reducing C bs vs ks g at last epoch us h → IsNextUse C bs vs ks g last epoch at u
     → Reducing C bs vs ks g (at + 1) (given_after u last at) (epoch_kept u epoch at) (us ++ u ∷ []) (h ++ is_kept u ∷ [])
 reducing_next C bs vs ks g at last epoch us h fence_use.NoFence s is =
-    dropped_next C bs vs ks g at last last epoch us h fence_use.NoFence s (is, not_last h at s.count) (λ a b within conflict before behind f. absurd (is f))
+    dropped_next C bs vs ks g at last last epoch us h fence_use.NoFence s (is, not_last h at s.count) (λ a b within conflict before after f. absurd (is f))
     (λ m guard f. is f) (λ j signal f. is f) (λ is_held f. is f) (given_before g at last s.begins is)
 reducing_next C bs vs ks g at last epoch us h fence_use.Needless s is =
     let safe : GuardsNone bs g at = none_guards bs g at last s.begins is.is.0 in
     let mute : SignalsNone vs g at = none_signals vs g at is.end is.next is.is.1 in
     let loose : IsHeld ks at → ⊥ = is.is.2 in
     dropped_next C bs vs ks g at last at epoch us h fence_use.Needless s (is.fenced, not_last h at s.count, safe, mute, loose)
-    (λ a b within conflict before behind f.
+    (λ a b within conflict before after f.
     elim (cases_lt a epoch) [
       | inl early ↦
           inl (record {
             at = epoch;
-            behind = early;
-            up_to = omega (arith, s.behind);
+            after = early;
+            up_to = omega (arith, s.up_to);
             fence = pushed_before h false epoch (s.starts (omega arith));
           })
       | inr from ↦
-          let p = is.spare a b from before behind within conflict in
-          inr (record { place = p.at; from = omega (arith, p.behind); up_to = p.up_to; fence = p.fence })
+          let p = is.spare a b from before after within conflict in
+          inr (record { place = p.at; from = omega (arith, p.after); up_to = p.up_to; fence = p.fence })
     ])
     (λ m guard f. safe m guard) (λ j signal f. mute j signal) (λ is_held f. loose is_held) (given_here g at is.fenced)
 reducing_next C bs vs ks g at last epoch us h fence_use.Held s is =
@@ -335,7 +335,7 @@ reducing_none C bs vs ks g =
     record {
       count = refl;
       uses = refl;
-      behind = omega arith;
+      up_to = omega arith;
       starts = λ some. absurd (omega arith);
       opened = λ k after f. true≢false (sym f);
       given = λ k f. absurd (true≢false (sym f));
@@ -353,7 +353,7 @@ reducing_all C bs vs ks g at last epoch us h s all =
     record {
       less = record { same_length = omega (arith, s.count); fences = s.given };
       separates = λ a b ordered within conflict separated.
-          elim (s.separates a b separated.at within conflict separated.behind separated.up_to (omega (arith, separated.up_to)) separated.fence) [
+          elim (s.separates a b separated.at within conflict separated.after separated.up_to (omega (arith, separated.up_to)) separated.fence) [
             | inl there ↦ there
             | inr later ↦ let w : later.place < length g = fence_within g later.place later.fence in absurd (omega (arith, later.from))
           ];

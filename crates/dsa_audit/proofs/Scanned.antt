@@ -20,7 +20,7 @@ pub record IsCounted (h : Group) (at epoch : ℕ) (other : Group) : Type 0 where
 pub record Scanned (C : ℕ → ℕ → Type 0) (g : Group) (at epoch : ℕ) (ms : List FencePlace) (h : Group) : Type 0 where
   pub count : length h ≡ at
   pub places : length ms ≡ at
-  pub behind : epoch ≤ at
+  pub up_to : epoch ≤ at
   pub starts : 0 < epoch → HasFence h epoch
   pub opened : (k : ℕ) → epoch < k → ¬ HasFence h k
   pub kept : (k : ℕ) → k < at → HasFence g k → HasFence h k
@@ -62,7 +62,7 @@ open_next C g at epoch ms h s lt (unfenced, none) =
     record {
       count = omega (arith, s.count, length-append h (false ∷ []));
       places = omega (arith, s.places, length-append ms (fence_place.NoFence ∷ []));
-      behind = omega (arith, s.behind);
+      up_to = omega (arith, s.up_to);
       starts = λ some. pushed_before h false epoch (s.starts some);
       opened = λ k after f.
           elim (pushed_back h false k f) [
@@ -83,8 +83,8 @@ open_next C g at epoch ms h s lt (unfenced, none) =
                   | inl before ↦
                       record {
                         at = epoch;
-                        behind = before;
-                        up_to = omega (arith, s.behind);
+                        after = before;
+                        up_to = omega (arith, s.up_to);
                         fence = pushed_before h false epoch (s.starts (omega arith));
                       }
                   | inr from ↦ absurd (none a from (omega arith) (subst (C a) e conflict))
@@ -111,7 +111,7 @@ open_next C g at epoch ms h s lt (unfenced, none) =
 -- some fence of another group up to `at` is after all counted ones
 pub record IsMore (at epoch : ℕ) (other : Group) : Type 0 where
   pub place : ℕ
-  pub behind : (e : ℕ) → e ≤ at → e ≤ suc epoch → e ≤ place
+  pub after : (e : ℕ) → e ≤ at → e ≤ suc epoch → e ≤ place
   pub up_to : place ≤ at
   pub fence : HasFence other place
 
@@ -122,7 +122,7 @@ fenced_next C g at epoch ms h m s lt is more_of =
     record {
       count = omega (arith, s.count, length-append h (true ∷ []));
       places = omega (arith, s.places, length-append ms (m ∷ []));
-      behind = omega arith;
+      up_to = omega arith;
       starts = λ some. pushed_last h at s.count;
       opened = λ k after f.
           elim (pushed_back h true k f) [
@@ -137,13 +137,13 @@ fenced_next C g at epoch ms h m s lt is more_of =
       separates = λ a b ordered below conflict.
           elim (cases_lt b at) [
             | inl less ↦ separated_pushed h true a b (s.separates a b ordered less conflict)
-            | inr more ↦ record { at = at; behind = omega arith; up_to = omega arith; fence = pushed_last h at s.count }
+            | inr more ↦ record { at = at; after = omega arith; up_to = omega arith; fence = pushed_last h at s.count }
           ];
       least = λ other more separates.
           let l = s.least other more separates in
           let p = more_of other more separates in
           let c : fence_count (take l.end other) + 1 ≤ fence_count (take (at + 1) other) =
-          count_more other l.end p.place (at + 1) (p.behind l.end l.within l.up_to) (omega (arith, p.up_to)) p.fence in
+          count_more other l.end p.place (at + 1) (p.after l.end l.within l.up_to) (omega (arith, p.up_to)) p.fence in
           record {
             end = at + 1;
             within = omega arith;
@@ -160,7 +160,7 @@ scanned_next C g at epoch ms h fence_place.Given s lt is =
     fenced_next C g at epoch ms h fence_place.Given s lt (is, pushed_last h at s.count)
     (λ other more separates. record {
       place = at;
-      behind = λ e within up_to. within;
+      after = λ e within up_to. within;
       up_to = omega arith;
       fence = more.fences at is;
     })
@@ -181,7 +181,7 @@ scanned_next C g at epoch ms h (fence_place.Missing i) s lt (unfenced, last) =
     let p = separates i at last.ends (omega (arith, more.same_length)) last.conflict in
     record {
       place = p.at;
-      behind = λ e within up_to. omega (arith, p.behind, last.begun);
+      after = λ e within up_to. omega (arith, p.after, last.begun);
       up_to = p.up_to;
       fence = p.fence;
     })
@@ -191,7 +191,7 @@ scanned_none C g =
     record {
       count = refl;
       places = refl;
-      behind = omega arith;
+      up_to = omega arith;
       starts = λ some. absurd (omega arith);
       opened = λ k after f. true≢false (sym f);
       kept = λ k below f. absurd (omega arith);

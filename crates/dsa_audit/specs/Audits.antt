@@ -15,7 +15,7 @@ HasFence g k = get_or g k false ≡ true
 -- there is a fence after member a, and at member b at the latest: b waits for a
 pub record IsSeparated (g : Group) (a b : ℕ) : Type 0 where
   pub at : ℕ
-  pub behind : a < at
+  pub after : a < at
   pub up_to : at ≤ b
   pub fence : HasFence g at
 
@@ -121,7 +121,7 @@ pub record IsFirstSignal (visible : List Bool) (g : Group) (k j : ℕ) : Type 0 
 -- (h), and after it also of those given (g)
 pub record IsNeeded (C : ℕ → ℕ → Type 0) (g h : Group) (k i j : ℕ) : Type 0 where
   pub before : i < k
-  pub behind : k ≤ j
+  pub after : k ≤ j
   pub within : j < length g
   pub conflict : C i j
   pub given : HasFence g k

@@ -82,7 +82,7 @@ NoneAcross C epoch at end = (i j : ℕ) → epoch ≤ i → i < at → at ≤ j 
 pub record IsAcross (C : ℕ → ℕ → Type 0) (epoch at end i j : ℕ) : Type 0 where
   pub begun : epoch ≤ i
   pub before : i < at
-  pub behind : at ≤ j
+  pub after : at ≤ j
   pub within : j < end
   pub conflict : C i j
 
@@ -95,7 +95,7 @@ IsSpare C g epoch at =
 pub record IsWitness (C : ℕ → ℕ → Type 0) (g : Group) (epoch at i j : ℕ) : Type 0 where
   pub begun : epoch ≤ i
   pub before : i < at
-  pub behind : at ≤ j
+  pub after : at ≤ j
   pub within : j < length g
   pub conflict : C i j
   pub open_after : ShareEpoch g at j

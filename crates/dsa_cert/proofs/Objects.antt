@@ -43,12 +43,12 @@ opposite true e = cc
 opposite false e = refl
 
 -- the members after the first one are at their names as before
-behind : (q k : List ℕ) (d : Data) (ms : Members) (fields : List Field) → k ≡ q → list_all (λ other. not (bytes_eq other q)) (map (λ f. f.0) fields) ≡ true
+found_after : (q k : List ℕ) (d : Data) (ms : Members) (fields : List Field) → k ≡ q → list_all (λ other. not (bytes_eq other q)) (map (λ f. f.0) fields) ≡ true
     → AllByRecursion (λ f. get_member f.0 (member k d ms) ≡ Some f.1) fields → AllByRecursion (λ f. get_member f.0 ms ≡ Some f.1) fields
-behind q k d ms [] same apart found = tt
-behind q k d ms (f ∷ fields) same apart found =
+found_after q k d ms [] same apart found = tt
+found_after q k d ms (f ∷ fields) same apart found =
     let (first, rest) = both (not (bytes_eq f.0 q)) _ apart in
-    (sym (past_name f.0 k d ms (ap (bytes_eq f.0) same ∙ opposite (bytes_eq f.0 q) first)) ∙ found.0, behind q k d ms fields same rest found.1)
+    (sym (past_name f.0 k d ms (ap (bytes_eq f.0) same ∙ opposite (bytes_eq f.0 q) first)) ∙ found.0, found_after q k d ms fields same rest found.1)
 
 -- members with these names, and these values at them, are these
 members_spelled : (ms : Members) (fields : List Field) → member_names ms ≡ map (λ f. f.0) fields → are_apart (map (λ f. f.0) fields) ≡ true
@@ -60,7 +60,7 @@ members_spelled (member k d ms) (f ∷ fields) names apart found =
     let (others, rest) = both (list_all (λ other. not (bytes_eq other f.0)) (map (λ g. g.0) fields)) _ apart in
     let same : k ≡ f.0 = cc in
     let value : Some d ≡ Some f.1 = sym (at_name f.0 k d ms same) ∙ found.0 in
-    let more = members_spelled ms fields (cc) rest (behind f.0 k d ms fields same others found.1) in
+    let more = members_spelled ms fields (cc) rest (found_after f.0 k d ms fields same others found.1) in
     cc
 
 -- an object with these names, and these values at them, is this one

@@ -47,7 +47,7 @@ module _ (pairs : Pairs) (fence first past x : ℕ) (rows lasts counts : List �
               rw same here
           | inr other ↦ others z end (omega arith) lt from (omega arith) ∙ h.before z end (omega arith) lt from le ∙ sym (unfenced end from (omega arith))
         ];
-    behind = λ z end low lt from le.
+    after = λ z end low lt from le.
         elim (cases_eq z x) [
           | inl same ↦
               let k = end - first - 1 in
@@ -57,7 +57,7 @@ module _ (pairs : Pairs) (fence first past x : ℕ) (rows lasts counts : List �
               ∙ ap (λ (v : ℕ). v - fence * (count + 1)) (sym (unfenced end (omega arith) le)) in
               rw same (count, counted, here)
           | inr other ↦
-              let (count, counted, is) = h.behind z end (omega arith) lt from le in
+              let (count, counted, is) = h.after z end (omega arith) lt from le in
               (count, counted, others z end (omega arith) lt (omega arith) le ∙ is ∙ ap (λ (v : ℕ). v - fence * (count + 1)) (sym (unfenced end (omega arith) le)))
         ];
     last = λ z low lt.
@@ -98,8 +98,8 @@ module _ (pairs : Pairs) (prices : List ℕ) (fence first past : ℕ) (rows last
                 (here.0, last_joined pairs start end count 0 piece here.0 chain.reached here.1),
                 filled.each.before next end begun inside late early ∙ less_none (slice_index rows (place first 64 end)) fence,
               )
-          | inl behind ↦
-              let (more, counted, is) = filled.each.behind next end begun inside behind le in
+          | inl after ↦
+              let (more, counted, is) = filled.each.after next end begun inside after le in
               let here : HasCountBelow pairs piece end (more + 1) = count_one_more pairs piece end next more leads counted in
               (more + 1, (here.0, last_joined pairs start end count (more + 1) piece here.0 chain.reached here.1), is)
         ]

@@ -13,7 +13,7 @@ pub record HasRows (pairs : Pairs) (fence first past least : ℕ) (rows lasts co
   pub before :
       (x end : ℕ) → least ≤ x → x < past → first < end → end ≤ x →
       slice_index rows (place first (x - first) end) ≡ slice_index rows (place first 64 end)
-  pub behind :
+  pub after :
       (x end : ℕ) → least ≤ x → x < past → x < end → end ≤ past →
       (count : ℕ) × HasCountBelow pairs x end count
       × (slice_index rows (place first (x - first) end) ≡ slice_index rows (place first 64 end) - fence * (count + 1))

@@ -102,7 +102,7 @@ module _ (fs : List Fields) (touches : List Touch) (known : All (IsTouchOf fs) t
               place = q.0;
               here = S;
               there = T;
-              behind = lt;
+              after = lt;
               in_reach = q_in;
               at_here = p.1;
               at_there = q.1;
@@ -117,7 +117,7 @@ module _ (fs : List Fields) (touches : List Touch) (known : All (IsTouchOf fs) t
               place = p.0;
               here = T;
               there = S;
-              behind = gt;
+              after = gt;
               in_reach = p_in;
               at_here = q.1;
               at_there = p.1;

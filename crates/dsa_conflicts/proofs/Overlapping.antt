@@ -91,7 +91,7 @@ module _ (window : ℕ) (t u : Touch) (old : List (Option ℕ)) (first second : 
 module _ (touches : List Touch) (window p : ℕ) (t : Touch) (at : slice_get touches p ≡ Some t) (old : List (Option ℕ)) where
   -- one access more that begins in that of the place
   pub notes_next : (q : ℕ) (u : Touch) → p < q → slice_get touches q ≡ Some u → BeginsIn t u → (mid new : List (Option ℕ)) → Notes (ClashFrom touches window p q) old mid → Notes (Clash window t u) mid new → Notes (ClashFrom touches window p (q + 1)) old new
-  notes_next q u behind at_u begins mid new =
+  notes_next q u after at_u begins mid new =
       notes_both (ClashFrom touches window p q) (Clash window t u) (ClashFrom touches window p (q + 1)) old mid new
       (λ b a h. elim (cases_eq h.place q) [
         | inl same ↦
@@ -99,25 +99,25 @@ module _ (touches : List Touch) (window p : ℕ) (t : Touch) (at : slice_get tou
             let is_u : h.there ≡ u = same_Some h.there u (sym h.at_there ∙ (ap (slice_get touches) same ∙ at_u)) in
             inr (subst (λ (x : Touch). Clash window t x b a) is_u (subst (λ (x : Touch). Clash window x h.there b a) is_t h.clash))
         | inr apart ↦
-            inl (record { place = h.place; here = h.here; there = h.there; behind = h.behind; in_reach = omega (arith, h.in_reach, apart); at_here = h.at_here; at_there = h.at_there; begins = h.begins; clash = h.clash })
+            inl (record { place = h.place; here = h.here; there = h.there; after = h.after; in_reach = omega (arith, h.in_reach, apart); at_here = h.at_here; at_there = h.at_there; begins = h.begins; clash = h.clash })
       ])
-      (λ b a h. record { place = h.place; here = h.here; there = h.there; behind = h.behind; in_reach = omega (arith, h.in_reach); at_here = h.at_here; at_there = h.at_there; begins = h.begins; clash = h.clash })
-      (λ b a clash. record { place = q; here = t; there = u; behind = behind; in_reach = omega arith; at_here = at; at_there = at_u; begins = begins; clash = clash })
+      (λ b a h. record { place = h.place; here = h.here; there = h.there; after = h.after; in_reach = omega (arith, h.in_reach); at_here = h.at_here; at_there = h.at_there; begins = h.begins; clash = h.clash })
+      (λ b a clash. record { place = q; here = t; there = u; after = after; in_reach = omega arith; at_here = at; at_there = at_u; begins = begins; clash = clash })
 
   -- if one does not begin in it, none after that one does
   pub notes_last : IsNonDecreasingBy (λ (x : Touch). x.span.first) touches → (q : ℕ) (u : Touch) → p < q → slice_get touches q ≡ Some u → (BeginsIn t u → ⊥) → (new : List (Option ℕ)) → Notes (ClashFrom touches window p q) old new
       → Notes (ClashFrom touches window p (length touches)) old new
-  notes_last sorted q u behind at_u out new =
+  notes_last sorted q u after at_u out new =
       let in' : q < length touches = slice_get_within touches q u at_u in
       notes_as (ClashFrom touches window p q) (ClashFrom touches window p (length touches)) old new
-      (λ b a h. record { place = h.place; here = h.here; there = h.there; behind = h.behind; in_reach = omega (arith, h.in_reach, in'); at_here = h.at_here; at_there = h.at_there; begins = h.begins; clash = h.clash })
+      (λ b a h. record { place = h.place; here = h.here; there = h.there; after = h.after; in_reach = omega (arith, h.in_reach, in'); at_here = h.at_here; at_there = h.at_there; begins = h.begins; clash = h.clash })
       (λ b a h. elim (cases_lt h.place q) [
-        | inl lt ↦ record { place = h.place; here = h.here; there = h.there; behind = h.behind; in_reach = lt; at_here = h.at_here; at_there = h.at_there; begins = h.begins; clash = h.clash }
+        | inl lt ↦ record { place = h.place; here = h.here; there = h.there; after = h.after; in_reach = lt; at_here = h.at_here; at_there = h.at_there; begins = h.begins; clash = h.clash }
         | inr ge ↦
             let is_t : h.here ≡ t = same_Some h.here t (sym h.at_here ∙ at) in
             let begins : BeginsIn t h.there = subst (λ (x : Touch). BeginsIn x h.there) is_t h.begins in
             let up = sorted q h.place u ge h.in_reach in
-            let before = sorted p q u (omega (arith, behind)) in' in
+            let before = sorted p q u (omega (arith, after)) in' in
             let here_is = ap (λ (x : Touch). x.span.first) (get_or_from_slice_get touches p t u at) in
             let next_is = ap (λ (x : Touch). x.span.first) (get_or_from_slice_get touches q u u at_u) in
             let there_is = ap (λ (x : Touch). x.span.first) (get_or_from_slice_get touches h.place h.there u h.at_there) in

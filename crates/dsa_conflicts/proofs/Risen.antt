@@ -50,7 +50,7 @@ module _ (fs : List Fields) (n : ℕ) (f : Fields) (at : slice_get fs n ≡ Some
     apart_here : (x : ℕ) → (low ≤ x) × (x < high) → (x < middle) ⊎ (bound ≤ x) → ((first ≤ x) × (x < first_end)) ⊎ ((second ≤ x) × (x < second_end)) → ⊥
     apart_here x within part (inl w) =
         elim goes [
-          | inl behind ↦ omega (arith, within.1, behind.0, w.0)
+          | inl after ↦ omega (arith, within.1, after.0, w.0)
           | inr on ↦ elim part [
             | inl lower ↦ omega (arith, lower, on.0, w.0)
             | inr upper ↦ omega (arith, upper, on.1, w.1)
@@ -58,7 +58,7 @@ module _ (fs : List Fields) (n : ℕ) (f : Fields) (at : slice_get fs n ≡ Some
         ]
     apart_here x within part (inr w) =
         elim goes [
-          | inl behind ↦ omega (arith, within.1, behind.0, w.0, ordered)
+          | inl after ↦ omega (arith, within.1, after.0, w.0, ordered)
           | inr on ↦ omega (arith, within.1, on.2, w.0)
         ]
 
@@ -66,7 +66,7 @@ module _ (fs : List Fields) (n : ℕ) (f : Fields) (at : slice_get fs n ≡ Some
     parted_before : (x : ℕ) → (low ≤ x) × (x < high) → (x < middle) ⊎ (bound ≤ x) → (x < middle') ⊎ (bound' ≤ x)
     parted_before x within part =
         elim goes [
-          | inl behind ↦ inl (omega (arith, cut, within.1, behind.0, behind.1, ordered, some))
+          | inl after ↦ inl (omega (arith, cut, within.1, after.0, after.1, ordered, some))
           | inr on ↦ elim part [
             | inl lower ↦ inl (omega (arith, cut, lower, on.0, on.1, on.3, some))
             | inr upper ↦ inr (omega (arith, upper, on.3))
@@ -76,14 +76,14 @@ module _ (fs : List Fields) (n : ℕ) (f : Fields) (at : slice_get fs n ≡ Some
     high_more : high ≤ second_end
     high_more =
         elim goes [
-          | inl behind ↦ omega (arith, behind.0, ordered, long)
+          | inl after ↦ omega (arith, after.0, ordered, long)
           | inr on ↦ omega (arith, on.2, long)
         ]
 
     bound_low : bound' ≤ second
     bound_low =
         elim goes [
-          | inl behind ↦ omega (arith, behind.1)
+          | inl after ↦ omega (arith, after.1)
           | inr on ↦ omega (arith, on.2, on.3, old.top)
         ]
 

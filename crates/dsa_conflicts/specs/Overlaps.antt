@@ -25,7 +25,7 @@ pub record ClashFrom (touches : List Touch) (window p end b a : ℕ) : Type 0 wh
   pub place : ℕ
   pub here : Touch
   pub there : Touch
-  pub behind : p < place
+  pub after : p < place
   pub in_reach : place < end
   pub at_here : slice_get touches p ≡ Some here
   pub at_there : slice_get touches place ≡ Some there

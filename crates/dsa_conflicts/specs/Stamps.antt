@@ -11,7 +11,7 @@ AtMost f stamp = (p : ℕ) → f p ≤ stamp
 pub record Covered (old new : ℕ → ℕ) (from to stamp : ℕ) : Type 0 where
   pub inside : (p : ℕ) → from ≤ p → p < to → new p ≡ stamp
   pub before : (p : ℕ) → p < from → new p ≡ old p
-  pub behind : (p : ℕ) → to ≤ p → new p ≡ old p
+  pub after : (p : ℕ) → to ≤ p → new p ≡ old p
 
 -- the greatest stamp from one place to before another, 0 if there is none
 pub record IsMost (f : ℕ → ℕ) (from to most : ℕ) : Type 0 where

@@ -45,7 +45,7 @@ chain_needed C greatest_batch n pairs start group k h chain (begun, set) =
           conflict = first.conflicts.conflict;
         };
         before = first.conflicts.ordered;
-        behind = omega arith;
+        after = omega arith;
         alone = λ other after up_to (other_begun, other_set).
             let other_within : other - start < length group = slice_get_within group (other - start) _ other_set in
             let (m, to_other) = (chain other other_begun (omega arith)).0 (other_begun, other_set) in

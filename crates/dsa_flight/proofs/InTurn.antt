@@ -69,15 +69,15 @@ module _ {D P : Type 0} (machine : Machine D P) where
       record { in_order = ((f mid).memory, first.orderly, rest.in_order); answer_is = rest.answer_is ∙ first.answer_is }
 
   -- the piece of this event doesn't conflict with the begun pieces of the submissions after y
-  abbrev ApartBehind : Setup D → Event → ℕ → List (Setup D) → List (List (Progress P)) → Type 0
-  ApartBehind a v y subs lanes =
+  abbrev ApartAfter : Setup D → Event → ℕ → List (Setup D) → List (List (Progress P)) → Type 0
+  ApartAfter a v y subs lanes =
       (d : D) → slice_get a.pieces v.piece ≡ Some d → (z : ℕ) (b : Setup D) (rs : List (Progress P)) → y < z →
       slice_get subs z ≡ Some b → slice_get lanes z ≡ Some rs → ApartFrom machine d b.pieces rs
 
   advance_first :
       (a : Setup D) (qs : List (Progress P)) (subs : List (Setup D)) (lanes : List (List (Progress P))) (m end : Memory) (v : Event) (new : State P) →
       AllFitting machine (a ∷ subs) m → InOrder (a ∷ subs) (qs ∷ lanes) m end → Step machine a (lane_state end qs) v new →
-      ApartBehind a v 0 (a ∷ subs) (qs ∷ lanes) → InOrder (a ∷ subs) (new.progress ∷ lanes) m new.memory
+      ApartAfter a v 0 (a ∷ subs) (qs ∷ lanes) → InOrder (a ∷ subs) (new.progress ∷ lanes) m new.memory
   advance_first a qs subs lanes m end v new fits order step apart =
       let mid : Memory = order.0 in
       let fits_a = fits_head a subs m fits in
@@ -96,14 +96,14 @@ module _ {D P : Type 0} (machine : Machine D P) where
   advance :
       (subs : List (Setup D)) (lanes : List (List (Progress P))) (m end : Memory) (y : ℕ) (a : Setup D) (qs : List (Progress P)) (v : Event) (new : State P) →
       AllFitting machine subs m → InOrder subs lanes m end → slice_get subs y ≡ Some a → slice_get lanes y ≡ Some qs →
-      Step machine a (lane_state end qs) v new → ApartBehind a v y subs lanes → InOrder subs (slice_set lanes y new.progress) m new.memory
+      Step machine a (lane_state end qs) v new → ApartAfter a v y subs lanes → InOrder subs (slice_set lanes y new.progress) m new.memory
   advance [] lanes m end y a qs v new fits order is_sub is_lane step apart = absurd (none_read y a is_sub)
   advance (b ∷ subs) [] m end y a qs v new fits order is_sub is_lane step apart = absurd order
   advance (b ∷ subs) (rs ∷ lanes) m end zero a qs v new fits order is_sub is_lane step apart =
       let a_is : a ≡ b = sym (same_Some b a is_sub) in
       let q_is : qs ≡ rs = sym (same_Some rs qs is_lane) in
       let step' : Step machine b (lane_state end rs) v new = subst (λ x. Step machine x (lane_state end rs) v new) a_is (subst (λ x. Step machine a (lane_state end x) v new) q_is step) in
-      let apart' : ApartBehind b v 0 (b ∷ subs) (rs ∷ lanes) = subst (λ x. ApartBehind x v 0 (b ∷ subs) (rs ∷ lanes)) a_is apart in
+      let apart' : ApartAfter b v 0 (b ∷ subs) (rs ∷ lanes) = subst (λ x. ApartAfter x v 0 (b ∷ subs) (rs ∷ lanes)) a_is apart in
       advance_first b rs subs lanes m end v new fits order step' apart'
   advance (b ∷ subs) (rs ∷ lanes) m end (suc y) a qs v new fits order is_sub is_lane step apart =
       let mid : Memory = order.0 in
@@ -278,7 +278,7 @@ module _ {D P : Type 0} (machine : Machine D P) (subs : List (Setup D)) (goes : 
         gated = λ x z w begun. still_ended s new x y v kept step (gated_before x z w begun);
       }
     where
-      apart : ApartBehind machine step.setup v y subs s.lanes
+      apart : ApartAfter machine step.setup v y subs s.lanes
       apart d is_d z b rs lt is_b is_rs j e q is_e is_q begun conflict =
           let w = cover y z step.setup b lt step.not_withdrawn step.is_sub is_b (record { i = v.piece; j = j; d = d; e = e; is_d = is_d; is_e = is_e; conflict = conflict }) in
           ended_is_last s new y v kept (kept.gated y z w (record { lane = rs; is_lane = is_rs; piece = j; progress = q; is_progress = is_q; begun = begun })) step

@@ -38,9 +38,9 @@ form_at b text i c lt is e so_far =
     let here : drop i text ≡ c ∷ drop (i + 1) text = drop_more text i 0 lt ∙ ap (λ (z : ℕ). z ∷ drop (i + 1) text) (sym is) in
     sym (form_next b c (drop (i + 1) text) e) ∙ (ap form_of (sym here) ∙ so_far)
 
-pub form_behind : (text : List ℕ) (i c : ℕ) → i < length text → c ≡ get_or text i 0 → is_spread c ≡ true → form_of (drop i text) ≡ form_of text
+pub form_after : (text : List ℕ) (i c : ℕ) → i < length text → c ≡ get_or text i 0 → is_spread c ≡ true → form_of (drop i text) ≡ form_of text
     → form_of (drop (i + 1) text) ≡ form_of text
-form_behind text i c lt is e so_far = form_at true text i c lt is e so_far
+form_after text i c lt is e so_far = form_at true text i c lt is e so_far
 
 pub form_here : (text : List ℕ) (i c : ℕ) → i < length text → c ≡ get_or text i 0 → is_spread c ≡ false → form_of (drop i text) ≡ form_of text
     → form_by c ≡ form_of text

@@ -62,14 +62,14 @@ unfoldable pub is_too_far : Memory → ℕ → ℕ → ℕ → Bool
 is_too_far m delta size i = nat_lt size (entry_place m delta i + 8)
 
 -- the offset of entry i isn't greater than that of the entry before (this project's choice: a fault)
-abbrev pub is_behind : Memory → ℕ → ℕ → Bool
-is_behind m delta i = nat_lt 0 i && nat_le (entry_place m delta i) (entry_place m delta (i - 1))
+abbrev pub is_out_of_order : Memory → ℕ → ℕ → Bool
+is_out_of_order m delta i = nat_lt 0 i && nat_le (entry_place m delta i) (entry_place m delta (i - 1))
 
 -- the status that entry i by itself causes: 7 if its offset isn't greater than that of the entry before, else 8 if it is
 -- too far (this project's choice)
 unfoldable pub entry_fault : Memory → ℕ → ℕ → ℕ → Option ℕ
 entry_fault m delta size i =
-    if is_behind m delta i then Some 7 else (if is_too_far m delta size i then Some 8 else None)
+    if is_out_of_order m delta i then Some 7 else (if is_too_far m delta size i then Some 8 else None)
 
 -- what entry i leaves at the address a: one of its 8 bytes of data, if they fit and one of them goes to a
 unfoldable pub entry_byte : Memory → ℕ → ℕ → ℕ → ℕ → ℕ → Option ℕ

@@ -17,7 +17,7 @@ use Rattle.dsa_descriptor.proofs.Entries.{length-chunks}
 use Rattle.dsa_settings.specs.Plan.{Group, Plan}
 use Rattle.dsa_settings.specs.Settings.{Limits, AreInLimits}
 use Rattle.dsa_emission.specs.declared.place.Place.{Place}
-use Rattle.dsa_descriptor.specs.Fences.{with_fence}
+use Rattle.dsa_descriptor.proofs.Fenced.{fenced_alike}
 use Rattle.dsa_emission.specs.Emission.{batched, batch_count, batched_count, place_of, batch_spelling, portal_entry, fenced_spelling, staged, joined, portal_bytes, staging_bytes, CanBeEmitted}
 use Rattle.dsa_emission.specs.EmissionLaws.{StandsAtPlaces}
 use Rattle.dsa_emission.proofs.AtPlaces.{emission_at_places}
@@ -103,7 +103,7 @@ fenced_pieces (x ∷ g) [] within = absurd (omega arith)
 fenced_pieces (x ∷ g) (e ∷ es) within =
     let later = fenced_pieces g es (omega arith) in
     let p : StagedPiece = record { fence = x; piece = e } in
-    (p ∷ later.0, ap (λ (b : List ℕ). spelling (with_fence x (fields e)) ++ b) later.1, omega (arith, later.2))
+    (p ∷ later.0, (λ i. fenced_alike e x i ++ later.1 i), omega (arith, later.2))
 
 -- the pieces that a group has there
 group_pieces : (place : Place) (g : Group) (ds : List Descriptor) → Fits place g ds → (ps : List StagedPiece) × (staged place g (map fields ds) ≡ flat_map staged_bytes ps) × (length ps ≡ batched g)

@@ -452,11 +452,11 @@ options_fit zero o [] r fit e = (subst OptionsFit (same_Some o r e) fit, tt)
 options_fit (suc most) o [] r fit e = (subst OptionsFit (same_Some o r e) fit, tt)
 options_fit zero o (w ∷ ws) r fit e = absurd cc
 options_fit (suc most) o (w ∷ ws) r fit e =
-    let behind = bound (after (codes ",") (w ∷ ws)) _ r e in
-    let next = bound (option_at o behind.0) _ r behind.2 in
-    let fits = option_fits o behind.0 next.0 fit next.1 in
+    let later = bound (after (codes ",") (w ∷ ws)) _ r e in
+    let next = bound (option_at o later.0) _ r later.2 in
+    let fits = option_fits o later.0 next.0 fit next.1 in
     let rest = options_fit most next.0.0 next.0.1 r fits.0 next.2 in
-    (rest.0, after_lined (codes ",") (w ∷ ws) behind.0 refl behind.1 (fits.1 rest.1))
+    (rest.0, after_lined (codes ",") (w ∷ ws) later.0 refl later.1 (fits.1 rest.1))
 
 flags_small : (carried : ℕ) (check : Bool) → carried < 2 ^ 16 → flags_with carried check < 2 ^ 16
 flags_small carried true lt = or_of_16 (bit_or required_flags carried) check_mask (or_of_16 required_flags carried (omega arith) lt) (omega arith)
@@ -469,8 +469,8 @@ read_words : (words : List Word) (f : Fields) → fields_of words ≡ Some f →
 unfolding fields_of
 read_words words f e =
     let op = bound (op_at words) _ f e in
-    let behind = bound (named (codes "record") op.0.2) _ f op.2 in
-    let record_at = bound (number_at (greatest 64) behind.0) _ f behind.2 in
+    let later = bound (named (codes "record") op.0.2) _ f op.2 in
+    let record_at = bound (number_at (greatest 64) later.0) _ f later.2 in
     let options = bound (options_at 5 no_options record_at.0.1) _ f record_at.2 in
     let o = op_fits words op.0 op.1 in
     let p = options_fit 5 no_options record_at.0.1 options.0 (omega arith, omega arith, omega arith) options.1 in
@@ -478,13 +478,13 @@ read_words words f e =
     let fit = subst Fit (same_Some _ f options.2) (record {
       pasid_fits = p.0.0;
       flags_fit = omega arith;
-      record_at_fits = address_fits behind.0 record_at.0 record_at.1;
+      record_at_fits = address_fits later.0 record_at.0 record_at.1;
       size_fits = o.1;
       int_handle_fits = p.0.2;
       op_fits = o.0;
     }) in (
       fit,
-      o.2 (named_lined (codes "record") op.0.2 behind.0 refl behind.1 (number_lined (greatest 64) behind.0 record_at.0 record_at.1 p.1)),
+      o.2 (named_lined (codes "record") op.0.2 later.0 refl later.1 (number_lined (greatest 64) later.0 record_at.0 record_at.1 p.1)),
     )
 
 pub words_fit : (words : List Word) (f : Fields) → fields_of words ≡ Some f → Fit f
@@ -517,9 +517,9 @@ starts true d [] = refl
 starts true d (w ∷ ws) = refl
 starts false d ws = refl
 
-lined_behind : (c : ℕ) (ws : List Word) → head_newline ws ≡ false → Lined (with_front c ws) → Lined ws
-lined_behind c [] plain h = tt
-lined_behind c (w ∷ ws) plain h = (plain, h.1)
+lined_without_front : (c : ℕ) (ws : List Word) → head_newline ws ≡ false → Lined (with_front c ws) → Lined ws
+lined_without_front c [] plain h = tt
+lined_without_front c (w ∷ ws) plain h = (plain, h.1)
 
 in_word_no_newline : (d : ℕ) → is_in_word d ≡ true → (d == 10) ≡ false
 in_word_no_newline d e = ne_eqb d 10 (λ k. let plain : is_in_word 10 ≡ true = rw k at e in cc)
@@ -528,7 +528,7 @@ word_lined : (more : Bool) (c : ℕ) (cs : List ℕ) → goes_on cs ≡ more →
 word_lined false c cs e h = h.1
 word_lined true c [] e h = absurd cc
 word_lined true c (d ∷ ds) e h =
-    lined_behind c (words_of (d ∷ ds)) (ap head_newline (word_byte d ds e) ∙ starts (goes_on ds) d (words_of ds) ∙ in_word_no_newline d e) h
+    lined_without_front c (words_of (d ∷ ds)) (ap head_newline (word_byte d ds e) ∙ starts (goes_on ds) d (words_of ds) ∙ in_word_no_newline d e) h
 
 rest_lined : {P : Type 0} (comment blank comma newline : Bool) (c : ℕ) (cs : List ℕ)
     → Lined (cond comment (words_in true cs) (cond blank (words_of cs) (cond comma ((44 ∷ []) ∷ words_of cs) (cond newline ((10 ∷ []) ∷ words_of cs)

@@ -15,11 +15,12 @@ use Rattle.dsa_descriptor.specs.declared.op.Op.{Op}
 use Rattle.dsa_descriptor.specs.declared.op.Op.TheVariants.{Move, Fill, Compare, ComparePattern, ApplyDelta, Dualcast}
 use Rattle.dsa_descriptor.specs.Descriptors.{fields}
 use Rattle.dsa_descriptor.specs.Fields.{Fields}
-use Rattle.dsa_descriptor.specs.Faults.{IsFirstFault}
+use Rattle.dsa_descriptor.specs.Faults.{IsFirstFault, Keeps}
 use Rattle.dsa_descriptor.specs.Lists.{entries}
 use Rattle.dsa_descriptor.specs.Spelling.{spelling}
 use Rattle.dsa_descriptor.proofs.Rules.{first_is_one}
-use Rattle.dsa_descriptor.proofs.Same.{one_spelling, same_descriptor, fault_only}
+use Rattle.dsa_descriptor.proofs.Listed.{fault_only}
+use Rattle.dsa_descriptor.proofs.Same.{one_spelling, same_descriptor}
 use Rattle.dsa_emission.specs.declared.emission_fault.EmissionFault.TheVariants.{PortalLength}
 use Rattle.dsa_emission.specs.EmissionFaults.{is_batch_entry}
 use Rattle.dsa_emission.proofs.Told.{code_told}
@@ -52,7 +53,7 @@ fault_of bytes others fault is = subst (λ (b : List ℕ). IsFirstFault b fault)
 
 same_other : (b c : List ℕ) (f g : FieldFault) → b ≡ c → IsOther b f → IsOther c g → Other b f ≡ Other c g
 same_other b c f g e p q =
-    let fault : f ≡ g = first_is_one b f g p.fault_is (subst (λ (x : List ℕ). IsFirstFault x g) (sym e) q.fault_is) in
+    let fault : f ≡ g = first_is_one Keeps b f g p.fault_is (subst (λ (x : List ℕ). IsFirstFault x g) (sym e) q.fault_is) in
     λ i. Other (e i) (fault i)
 
 one_submission : (bytes : List ℕ) (s t : Submission) → Submits bytes s → Submits bytes t → s ≡ t

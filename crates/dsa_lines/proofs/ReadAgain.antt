@@ -152,20 +152,20 @@ goes_on_same [] text = refl
 goes_on_same (c ∷ cs) text = refl
 
 -- it adds no words, whether the line begins in a comment or not
-comment_behind_in : (comments : Bool) (line text : List ℕ) → words_in true text ≡ [] → words_in comments (line ++ (32 ∷ 35 ∷ text)) ≡ words_in comments line
+comment_after_in : (comments : Bool) (line text : List ℕ) → words_in true text ≡ [] → words_in comments (line ++ (32 ∷ 35 ∷ text)) ≡ words_in comments line
 unfolding words_in
-comment_behind_in true [] text e = e
-comment_behind_in false [] text e = e
-comment_behind_in true (c ∷ cs) text e = rw (comment_behind_in true cs text e, comment_behind_in false cs text e) refl
-comment_behind_in false (c ∷ cs) text e =
-    rw (comment_behind_in true cs text e, comment_behind_in false cs text e, goes_on_same cs (35 ∷ text)) refl
+comment_after_in true [] text e = e
+comment_after_in false [] text e = e
+comment_after_in true (c ∷ cs) text e = rw (comment_after_in true cs text e, comment_after_in false cs text e) refl
+comment_after_in false (c ∷ cs) text e =
+    rw (comment_after_in true cs text e, comment_after_in false cs text e, goes_on_same cs (35 ∷ text)) refl
 
-pub comment_behind : (line text : List ℕ) → is_line text ≡ true → words_of (line ++ (32 ∷ 35 ∷ text)) ≡ words_of line
-comment_behind line text e = comment_behind_in false line text (comment text e)
+pub comment_after : (line text : List ℕ) → is_line text ≡ true → words_of (line ++ (32 ∷ 35 ∷ text)) ≡ words_of line
+comment_after line text e = comment_after_in false line text (comment text e)
 
 -- a canonical line with a comment after it spells its fields
 pub commented_read : (f : Fields) (text : List ℕ) → IsListed f → is_line text ≡ true → line_fields (words_of (line_text f ++ (32 ∷ 35 ∷ text))) ≡ Some (f ∷ [])
-commented_read f text listed e = ap line_fields (comment_behind (line_text f) text e) ∙ spelt_line (words_of (line_text f)) f (line_spells f listed)
+commented_read f text listed e = ap line_fields (comment_after (line_text f) text e) ∙ spelt_line (words_of (line_text f)) f (line_spells f listed)
 
 -- ---- the lines of records
 

@@ -108,12 +108,12 @@ none_with : (here : Option (List Recorded)) → (here >>= λ h. with_recorded h 
 none_with None = refl
 none_with (Some h) = refl
 
-nothing_said : (before : List (List ℕ)) (line : List ℕ) (behind : List (List ℕ)) → line_recorded (words_of line) ≡ None
-    → all_recorded (before ++ line ∷ behind) ≡ None
+nothing_said : (before : List (List ℕ)) (line : List ℕ) (after : List (List ℕ)) → line_recorded (words_of line) ≡ None
+    → all_recorded (before ++ line ∷ after) ≡ None
 unfolding all_recorded
-nothing_said [] line behind e = ap (λ (o : Option (List Recorded)). o >>= λ h. with_recorded h (all_recorded behind)) e
-nothing_said (first ∷ before) line behind e =
-    ap (λ (o : Option (List Recorded)). line_recorded (words_of first) >>= λ h. with_recorded h o) (nothing_said before line behind e)
+nothing_said [] line after e = ap (λ (o : Option (List Recorded)). o >>= λ h. with_recorded h (all_recorded after)) e
+nothing_said (first ∷ before) line after e =
+    ap (λ (o : Option (List Recorded)). line_recorded (words_of first) >>= λ h. with_recorded h o) (nothing_said before line after e)
     ∙ none_with (line_recorded (words_of first))
 
 pub spells_none : (lines : List (List ℕ)) (fault : TextFault) → IsRecordingFault lines fault → (fault ≡ Memory) ⊎ LinesSpellNone lines
@@ -121,7 +121,7 @@ spells_none lines (Grammar line column what) leaves =
     inr
     (λ bytes spells.
     let never : Some spells.0 ≡ None =
-    sym spells.1 ∙ ap all_recorded leaves.lines_are ∙ nothing_said leaves.before leaves.line leaves.behind leaves.outside in
+    sym spells.1 ∙ ap all_recorded leaves.lines_are ∙ nothing_said leaves.before leaves.line leaves.after leaves.outside in
     absurd cc)
 spells_none lines (Listed line fault) leaves = absurd leaves
 spells_none lines Memory leaves = inl refl

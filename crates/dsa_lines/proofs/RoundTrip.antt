@@ -182,15 +182,15 @@ privileged_read true c t n h m lt same lth =
     ∙ check_read c t n h m true lt same lth
 privileged_read false c t n h m lt same lth = check_read c (suc t) n h m false lt same lth
 
-abbrev behind_pasid : Bool → Bool → ℕ → ℕ → List Word
-behind_pasid q c n h = name_option (codes "privileged") q ++ (name_option (codes "check") c ++ (number_option (codes "flags") n ++ number_option (codes "handle") h))
+abbrev after_pasid : Bool → Bool → ℕ → ℕ → List Word
+after_pasid q c n h = name_option (codes "privileged") q ++ (name_option (codes "check") c ++ (number_option (codes "flags") n ++ number_option (codes "handle") h))
 
 pasid_read : (b : Bool) (id : ℕ) (q c : Bool) (n h : ℕ) → (id == 0) ≡ b → id < 2 ^ 20 → n < 2 ^ 16 → bit_and n carried_mask ≡ n → h < 2 ^ 16
-    → options_at (suc (suc (suc (suc (suc zero))))) no_options (number_option (codes "pasid") id ++ behind_pasid q c n h)
+    → options_at (suc (suc (suc (suc (suc zero))))) no_options (number_option (codes "pasid") id ++ after_pasid q c n h)
     ≡ Some (opts (some_number id) q c (some_number n) (some_number h))
 pasid_read true id q c n h e ltid lt same lth = rw e (privileged_read q c (suc zero) n h None lt same lth)
 pasid_read false id q c n h e ltid lt same lth =
-    rw e (pasid_step (suc (suc (suc (suc zero)))) id false false None None (behind_pasid q c n h) ltid ∙ privileged_read q c zero n h (Some id) lt same lth)
+    rw e (pasid_step (suc (suc (suc (suc zero)))) id false false None None (after_pasid q c n h) ltid ∙ privileged_read q c zero n h (Some id) lt same lth)
 
 -- the options of the canonical line are read
 options_again : (f : Fields) → IsListed f
@@ -395,30 +395,30 @@ pub number_is : (name : Word) (n : ℕ) → spaced name ≡ 32 ∷ name → (n =
     → tail_text (number_option name n) ≡ codes ", " ++ (name ++ (codes " " ++ decimal n))
 number_is name n plain e lt = rw (e, plain, spaced_decimal n lt, append-nil (decimal n)) refl
 
-some_turn : (turn : ℕ) (o : Options) (w : Word) (ws : List Word) (behind : List Word) (next : Options × List Word) → turn < 5
-    → after (codes ",") (w ∷ ws) ≡ Some behind → option_at o behind ≡ Some next
+some_turn : (turn : ℕ) (o : Options) (w : Word) (ws : List Word) (later : List Word) (next : Options × List Word) → turn < 5
+    → after (codes ",") (w ∷ ws) ≡ Some later → option_at o later ≡ Some next
     → options_at (5 - turn) o (w ∷ ws) ≡ options_at (5 - (turn + 1)) next.0 next.1
 unfolding options_at
-some_turn turn o w ws behind next lt e f =
+some_turn turn o w ws later next lt e f =
     let one : 5 - turn ≡ suc (5 - (turn + 1)) = omega arith in
     rw (one, e, f) refl
 
-pub no_behind : (turn : ℕ) (o : Options) (ws : List Word) → turn < 5 → (ws ≡ [] → ⊥) → after (codes ",") ws ≡ None → options_at (5 - turn) o ws ≡ None
+pub no_after : (turn : ℕ) (o : Options) (ws : List Word) → turn < 5 → (ws ≡ [] → ⊥) → after (codes ",") ws ≡ None → options_at (5 - turn) o ws ≡ None
 unfolding options_at
-no_behind turn o [] lt some e = absurd (some refl)
-no_behind turn o (w ∷ ws) lt some e = let one : 5 - turn ≡ suc (5 - (turn + 1)) = omega arith in rw (one, e) refl
+no_after turn o [] lt some e = absurd (some refl)
+no_after turn o (w ∷ ws) lt some e = let one : 5 - turn ≡ suc (5 - (turn + 1)) = omega arith in rw (one, e) refl
 
-pub no_next : (turn : ℕ) (o : Options) (ws behind : List Word) → turn < 5 → after (codes ",") ws ≡ Some behind → option_at o behind ≡ None
+pub no_next : (turn : ℕ) (o : Options) (ws later : List Word) → turn < 5 → after (codes ",") ws ≡ Some later → option_at o later ≡ None
     → options_at (5 - turn) o ws ≡ None
 unfolding options_at
-no_next turn o [] behind lt e f = absurd cc
-no_next turn o (w ∷ ws) behind lt e f = let one : 5 - turn ≡ suc (5 - (turn + 1)) = omega arith in rw (one, e, f) refl
+no_next turn o [] later lt e f = absurd cc
+no_next turn o (w ∷ ws) later lt e f = let one : 5 - turn ≡ suc (5 - (turn + 1)) = omega arith in rw (one, e, f) refl
 
-pub next_turn : (turn : ℕ) (o : Options) (ws behind : List Word) (next : Options × List Word) → turn < 5
-    → after (codes ",") ws ≡ Some behind → option_at o behind ≡ Some next
+pub next_turn : (turn : ℕ) (o : Options) (ws later : List Word) (next : Options × List Word) → turn < 5
+    → after (codes ",") ws ≡ Some later → option_at o later ≡ Some next
     → options_at (5 - turn) o ws ≡ options_at (5 - (turn + 1)) next.0 next.1
-next_turn turn o [] behind next lt e f = absurd cc
-next_turn turn o (w ∷ ws) behind next lt e f = some_turn turn o w ws behind next lt e f
+next_turn turn o [] later next lt e f = absurd cc
+next_turn turn o (w ∷ ws) later next lt e f = some_turn turn o w ws later next lt e f
 
 pub too_many : (o : Options) (ws : List Word) → (ws ≡ [] → ⊥) → options_at zero o ws ≡ None
 unfolding options_at

@@ -8,13 +8,13 @@ use Rattle.dsa_descriptor.specs.declared.fault.FieldFault.{FieldFault}
 use Rattle.dsa_descriptor.specs.declared.op.Op.{Op}
 use Rattle.dsa_descriptor.specs.declared.op.Op.TheVariants.{Move, Fill, Compare, ComparePattern, ApplyDelta, Dualcast}
 use Rattle.dsa_descriptor.specs.Descriptors.{fields}
-use Rattle.dsa_descriptor.specs.Faults.{AreZero, IsFirstFault}
+use Rattle.dsa_descriptor.specs.Faults.{AreZero, IsFirstFault, Keeps}
 use Rattle.dsa_descriptor.specs.Fields.{Fields}
 use Rattle.dsa_descriptor.specs.Operands.{code_of}
 use Rattle.dsa_descriptor.specs.Profile.{IsListed}
 use Rattle.dsa_descriptor.specs.Spelling.{spelling}
 use Rattle.dsa_descriptor.proofs.Rules.{first_is_one}
-use Rattle.dsa_descriptor.proofs.Same.{fault_only}
+use Rattle.dsa_descriptor.proofs.Listed.{fault_only}
 use Rattle.dsa_descriptor.specs.Fences.{unfenced, with_fence}
 use Rattle.dsa_descriptor.proofs.Fenced.{fenced_spelling_set, length-fenced_one, one_fenced, unfenced_same}
 use Rattle.dsa_emission.proofs.Spelt.{told_piece}
@@ -103,7 +103,7 @@ piece_or_other p bytes fault e none = fault_only (unfenced bytes) fault p.piece 
 
 pub same_other : (b c : List ℕ) (f g : FieldFault) → b ≡ c → IsNoPiece b f → IsNoPiece c g → Other b f ≡ Other c g
 same_other b c f g e p q =
-    let fault : f ≡ g = first_is_one (unfenced b) f g p.fault_is (subst (λ (x : List ℕ). IsFirstFault (unfenced x) g) (sym e) q.fault_is) in
+    let fault : f ≡ g = first_is_one Keeps (unfenced b) f g p.fault_is (subst (λ (x : List ℕ). IsFirstFault (unfenced x) g) (sym e) q.fault_is) in
     λ i. Other (e i) (fault i)
 
 one_entry : (e f : StagedEntry) → IsEntry e → IsEntry f → entry_bytes e ≡ entry_bytes f → e ≡ f
@@ -134,11 +134,11 @@ same_records (r ∷ rs) (t ∷ ts) p q e =
 entry_or_records : (e : StagedEntry) (es : List StagedEntry) (rs : List (List ℕ)) (rest : List ℕ) → IsEntry e → AllByRecursion IsRecord rs → (2 ≤ length rs → BeginsRecord (concat rs))
     → concat rs ≡ flat_map entry_bytes (e ∷ es) ++ rest → ⊥
 entry_or_records e es rs rest h all begins same =
-    let behind : List ℕ = flat_map entry_bytes es ++ rest in
-    let whole : concat rs ≡ entry_bytes e ++ behind = same ∙ append_assoc (entry_bytes e) (flat_map entry_bytes es) rest in
+    let after : List ℕ = flat_map entry_bytes es ++ rest in
+    let whole : concat rs ≡ entry_bytes e ++ after = same ∙ append_assoc (entry_bytes e) (flat_map entry_bytes es) rest in
     let long = long_entry e h in
-    let two : 2 ≤ length rs = omega (arith, ap length whole, length-append (entry_bytes e) behind, long_records rs all) in
-    h.no_record (begins_there (entry_bytes e) behind (omega arith) (subst BeginsRecord whole (begins two)))
+    let two : 2 ≤ length rs = omega (arith, ap length whole, length-append (entry_bytes e) after, long_records rs all) in
+    h.no_record (begins_there (entry_bytes e) after (omega arith) (subst BeginsRecord whole (begins two)))
 
 same_staging : (es fs : List StagedEntry) (rs ts : List (List ℕ)) → AllByRecursion IsEntry es → AllByRecursion IsEntry fs → AllByRecursion IsRecord rs → AllByRecursion IsRecord ts
     → (2 ≤ length rs → BeginsRecord (concat rs)) → (2 ≤ length ts → BeginsRecord (concat ts))

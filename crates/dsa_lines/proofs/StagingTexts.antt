@@ -192,21 +192,21 @@ same_digits : (r t : List ℕ) → IsRecord r → IsRecord t → text_of (byte_w
 same_digits r t p q e = one_encoding r t p.are_bytes q.are_bytes (ap (drop 11) (sym (bytes_are r p) ∙ e ∙ bytes_are t q))
 
 -- a line is its place, and then what the record has
-behind_place : (place v w x y : List ℕ) → is_line v ≡ true → is_line w ≡ true → ((place ++ v) ++ 10 ∷ []) ++ x ≡ ((place ++ w) ++ 10 ∷ []) ++ y → (v ≡ w) × (x ≡ y)
-behind_place place v w x y p q e = first_line v w x y p q (append_cancel_left place _ _ (sym (parted place v (10 ∷ []) x) ∙ e ∙ parted place w (10 ∷ []) y))
+after_place : (place v w x y : List ℕ) → is_line v ≡ true → is_line w ≡ true → ((place ++ v) ++ 10 ∷ []) ++ x ≡ ((place ++ w) ++ 10 ∷ []) ++ y → (v ≡ w) × (x ≡ y)
+after_place place v w x y p q e = first_line v w x y p q (append_cancel_left place _ _ (sym (parted place v (10 ∷ []) x) ∙ e ∙ parted place w (10 ∷ []) y))
 
 abbrev line_by : Bool → List ℕ → List ℕ → List ℕ
 line_by plausible place r = cond plausible (codes "# " ++ (place ++ written_text r)) (codes "unknown " ++ (place ++ text_of (byte_words r)))
 
 same_record : (a b : Bool) (place r t x y : List ℕ) → IsRecord r → IsRecord t → (line_by a place r ++ 10 ∷ []) ++ x ≡ (line_by b place t ++ 10 ∷ []) ++ y → (r ≡ t) × (x ≡ y)
 same_record true true place r t x y p q e =
-    let parts = behind_place place (written_text r) (written_text t) x y
+    let parts = after_place place (written_text r) (written_text t) x y
     (written_line (bytes_eq r (replicate 32 0)) r p) (written_line (bytes_eq t (replicate 32 0)) t q) (ap (drop 2) e) in
     (same_written (bytes_eq r (replicate 32 0)) (bytes_eq t (replicate 32 0)) r t p q refl refl parts.0, parts.1)
 same_record true false place r t x y p q e = let no : ◌≡◌ {A = ℕ} 35 117 = ap (λ (l : List ℕ). get_or l 0 0) e in absurd (omega arith)
 same_record false true place r t x y p q e = let no : ◌≡◌ {A = ℕ} 117 35 = ap (λ (l : List ℕ). get_or l 0 0) e in absurd (omega arith)
 same_record false false place r t x y p q e =
-    let parts = behind_place place (text_of (byte_words r)) (text_of (byte_words t)) x y (bytes_line r p) (bytes_line t q) (ap (drop 8) e) in
+    let parts = after_place place (text_of (byte_words r)) (text_of (byte_words t)) x y (bytes_line r p) (bytes_line t q) (ap (drop 8) e) in
     (same_digits r t p q parts.0, parts.1)
 
 same_records_text : (batch address : ℕ) (rs ts : List (List ℕ)) → AllByRecursion IsRecord rs → AllByRecursion IsRecord ts → records_text batch address rs ≡ records_text batch address ts → rs ≡ ts

@@ -17,21 +17,21 @@ use Rattle.dsa_lines.specs.Grammar.{op_at, fields_of, ◌>>=◌}
 use Rattle.dsa_lines.specs.Text.{line_text}
 use Rattle.dsa_lines.proofs.WordLemmas.{both}
 use Rattle.dsa_lines.proofs.RoundTrip.{line_spells}
-use Rattle.dsa_lines.specs.Texts.{with_byte, lines_of, line_fields, with_fields, all_fields, TextSpells, text_line, list_text, line_len, lines_behind}
+use Rattle.dsa_lines.specs.Texts.{with_byte, lines_of, line_fields, with_fields, all_fields, TextSpells, text_line, list_text, line_len, lines_after}
 use Rattle.dsa_lines.specs.Assembled.{LeavesGrammarAt}
 use Rattle.dsa_lines.proofs.LineLemmas.{is_line, canonical_is_line}
 
 -- ---- lines
 
 len_by : (b : Bool) (c : ℕ) (cs : List ℕ) → (c == 10) ≡ b
-    → lines_of cs ≡ take (line_len cs) cs ∷ lines_behind (drop (line_len cs) cs)
-    → lines_of (c ∷ cs) ≡ take (line_len (c ∷ cs)) (c ∷ cs) ∷ lines_behind (drop (line_len (c ∷ cs)) (c ∷ cs))
+    → lines_of cs ≡ take (line_len cs) cs ∷ lines_after (drop (line_len cs) cs)
+    → lines_of (c ∷ cs) ≡ take (line_len (c ∷ cs)) (c ∷ cs) ∷ lines_after (drop (line_len (c ∷ cs)) (c ∷ cs))
 unfolding lines_of
 len_by true c cs e so_far = rw e refl
 len_by false c cs e so_far = rw e (ap (with_byte c) so_far)
 
 -- the first line, and those after its newline
-pub lines_at : (text : List ℕ) → lines_of text ≡ take (line_len text) text ∷ lines_behind (drop (line_len text) text)
+pub lines_at : (text : List ℕ) → lines_of text ≡ take (line_len text) text ∷ lines_after (drop (line_len text) text)
 unfolding lines_of
 lines_at [] = refl
 lines_at (c ∷ cs) = len_by (c == 10) c cs refl (lines_at cs)
@@ -136,9 +136,9 @@ one_line : (line : List ℕ) (here : List Fields) → line_fields (words_of line
 unfolding all_fields
 one_line line here e = ap (λ (o : Option (List Fields)). o >>= λ h. with_fields h (Some [])) e ∙ ap Some (append-nil here)
 
-no_line : (line : List ℕ) (behind : List (List ℕ)) → line_fields (words_of line) ≡ None → all_fields (line ∷ behind) ≡ None
+no_line : (line : List ℕ) (after : List (List ℕ)) → line_fields (words_of line) ≡ None → all_fields (line ∷ after) ≡ None
 unfolding all_fields
-no_line line behind e = ap (λ (o : Option (List Fields)). o >>= λ h. with_fields h (all_fields behind)) e
+no_line line after e = ap (λ (o : Option (List Fields)). o >>= λ h. with_fields h (all_fields after)) e
 
 -- one line more
 pub fields_more : (before : List (List ℕ)) (line : List ℕ) (done here : List Fields) → all_fields before ≡ Some done → line_fields (words_of line) ≡ Some here
@@ -152,9 +152,9 @@ fields_more before line done here e f =
 pub leaves_none : (lines : List (List ℕ)) (number : ℕ) → LeavesGrammarAt lines number → all_fields lines ≡ None
 leaves_none lines number leaves =
     ap all_fields leaves.lines_are
-    ∙ fields_append leaves.before (leaves.line ∷ leaves.behind)
-    ∙ ap (λ (o : Option (List Fields)). o >>= λ fs. with_fields fs (all_fields (leaves.line ∷ leaves.behind))) leaves.spelled.1
-    ∙ ap (with_fields leaves.spelled.0) (no_line leaves.line leaves.behind leaves.outside)
+    ∙ fields_append leaves.before (leaves.line ∷ leaves.after)
+    ∙ ap (λ (o : Option (List Fields)). o >>= λ fs. with_fields fs (all_fields (leaves.line ∷ leaves.after))) leaves.spelled.1
+    ∙ ap (with_fields leaves.spelled.0) (no_line leaves.line leaves.after leaves.outside)
 
 text_append : (fs gs : List Fields) → list_text (fs ++ gs) ≡ list_text fs ++ list_text gs
 unfolding list_text
@@ -178,18 +178,18 @@ pub no_text : list_text [] ≡ []
 unfolding list_text
 no_text = refl
 
-behind_newline : (back : List ℕ) → 1 ≤ length back → lines_behind back ≡ lines_of (take (length back - 1) (drop 1 back))
-behind_newline [] lt = absurd (omega arith)
-behind_newline (c ∷ cs) lt = ap lines_of (sym (whole cs))
+after_newline : (back : List ℕ) → 1 ≤ length back → lines_after back ≡ lines_of (take (length back - 1) (drop 1 back))
+after_newline [] lt = absurd (omega arith)
+after_newline (c ∷ cs) lt = ap lines_of (sym (whole cs))
   where
     whole : (xs : List ℕ) → take (suc (length xs) - 1) xs ≡ xs
     whole xs = let e : suc (length xs) - 1 ≡ length xs = omega arith in rw e (take-length xs)
 
 -- the first line, as it was split off
-pub first_line : (rest line back : List ℕ) (n : ℕ) → n ≡ line_len rest → line ≡ take n rest → back ≡ drop n rest → lines_of rest ≡ line ∷ lines_behind back
+pub first_line : (rest line back : List ℕ) (n : ℕ) → n ≡ line_len rest → line ≡ take n rest → back ≡ drop n rest → lines_of rest ≡ line ∷ lines_after back
 first_line rest line back n e f g =
     lines_at rest
-    ∙ rw (← e) (ap (λ (l : List ℕ). l ∷ lines_behind (drop n rest)) (sym f) ∙ ap (λ (b : List ℕ). line ∷ lines_behind b) (sym g))
+    ∙ rw (← e) (ap (λ (l : List ℕ). l ∷ lines_after (drop n rest)) (sym f) ∙ ap (λ (b : List ℕ). line ∷ lines_after b) (sym g))
 
 pub no_fields : all_fields [] ≡ Some []
 unfolding all_fields
@@ -198,7 +198,7 @@ no_fields = refl
 -- the line before a newline, and the lines after it
 pub more_lines : (rest line back : List ℕ) (n : ℕ) → n ≡ line_len rest → line ≡ take n rest → back ≡ drop n rest → 1 ≤ length back
     → lines_of rest ≡ line ∷ lines_of (take (length back - 1) (drop 1 back))
-more_lines rest line back n e f g lt = first_line rest line back n e f g ∙ ap (λ (ls : List (List ℕ)). line ∷ ls) (behind_newline back lt)
+more_lines rest line back n e f g lt = first_line rest line back n e f g ∙ ap (λ (ls : List (List ℕ)). line ∷ ls) (after_newline back lt)
 
 -- what comes after a newline is shorter than the whole text
 pub next_shorter : (rest back : List ℕ) (n : ℕ) → back ≡ drop n rest → 1 ≤ length back → length (take (length back - 1) (drop 1 back)) + 1 ≤ length rest
@@ -206,7 +206,7 @@ next_shorter rest back n e lt =
     let here : length back ≡ length rest - n = ap length e ∙ length-drop n rest in
     omega (arith, here, length-take-le (length back - 1) (drop 1 back) (omega (arith, length-drop 1 back)))
 
-no_lines : (back : List ℕ) → length back < 1 → lines_behind back ≡ []
+no_lines : (back : List ℕ) → length back < 1 → lines_after back ≡ []
 no_lines [] lt = refl
 no_lines (c ∷ cs) lt = absurd (omega arith)
 

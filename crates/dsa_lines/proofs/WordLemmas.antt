@@ -24,12 +24,12 @@ word_byte c cs e =
 abbrev pub Front : List ℕ → Type 0
 Front text = words_of text ≡ take (word_len text) text ∷ words_of (drop (word_len text) text)
 
-behind : (b : Bool) (c d : ℕ) (ds : List ℕ) → is_in_word c ≡ true → is_in_word d ≡ b → (0 < word_len (d ∷ ds) → Front (d ∷ ds))
+word_further : (b : Bool) (c d : ℕ) (ds : List ℕ) → is_in_word c ≡ true → is_in_word d ≡ b → (0 < word_len (d ∷ ds) → Front (d ∷ ds))
     → words_of (c ∷ d ∷ ds) ≡ (c ∷ take (word_len (d ∷ ds)) (d ∷ ds)) ∷ words_of (drop (word_len (d ∷ ds)) (d ∷ ds))
-behind true c d ds e f front =
+word_further true c d ds e f front =
     let positive : 0 < word_len (d ∷ ds) = rw f (omega arith) in
     word_byte c (d ∷ ds) e ∙ rw f (ap (with_front c) (rw f at (front positive)))
-behind false c d ds e f front = word_byte c (d ∷ ds) e ∙ rw f refl
+word_further false c d ds e f front = word_byte c (d ∷ ds) e ∙ rw f refl
 
 at_front : (b : Bool) (c : ℕ) (cs : List ℕ) → is_in_word c ≡ b → 0 < word_len (c ∷ cs)
     → (is_in_word c ≡ true → words_of (c ∷ cs) ≡ (c ∷ take (word_len cs) cs) ∷ words_of (drop (word_len cs) cs)) → Front (c ∷ cs)
@@ -40,7 +40,7 @@ at_front false c cs e lt step = absurd (let none : 0 < 0 = rw e at lt in omega a
 pub word_front : (text : List ℕ) → 0 < word_len text → Front text
 word_front [] lt = absurd (omega arith)
 word_front (c ∷ []) lt = at_front (is_in_word c) c [] refl lt (λ e. word_byte c [] e)
-word_front (c ∷ d ∷ ds) lt = at_front (is_in_word c) c (d ∷ ds) refl lt (λ e. behind (is_in_word d) c d ds e refl (word_front (d ∷ ds)))
+word_front (c ∷ d ∷ ds) lt = at_front (is_in_word c) c (d ∷ ds) refl lt (λ e. word_further (is_in_word d) c d ds e refl (word_front (d ∷ ds)))
 
 -- ---- what comes first
 

@@ -23,8 +23,8 @@ pub record IsListing (lines : List (List ℕ)) (bytes : List ℕ) : Type 0 where
 pub record LeavesGrammarAt (lines : List (List ℕ)) (number : ℕ) : Type 0 where
   pub before : List (List ℕ)
   pub line : List ℕ
-  pub behind : List (List ℕ)
-  pub lines_are : lines ≡ before ++ line ∷ behind
+  pub after : List (List ℕ)
+  pub lines_are : lines ≡ before ++ line ∷ after
   pub number_is : number ≡ length before + 1
   pub spelled : (fs : List Fields) × (all_fields before ≡ Some fs)
   pub outside : line_fields (words_of line) ≡ None

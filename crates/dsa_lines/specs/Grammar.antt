@@ -184,8 +184,8 @@ unfoldable pub options_at : ℕ → Options → List Word → Option Options
 options_at most o [] = Some o
 options_at zero o (w ∷ ws) = None
 options_at (suc most) o (w ∷ ws) = do
-  behind ← after (codes ",") (w ∷ ws)
-  next ← option_at o behind
+  later ← after (codes ",") (w ∷ ws)
+  next ← option_at o later
   options_at most next.0 next.1
 
 -- ---- a line
@@ -194,8 +194,8 @@ options_at (suc most) o (w ∷ ws) = do
 unfoldable pub fields_of : List Word → Option Fields
 fields_of words = do
   op ← op_at words
-  behind ← named (codes "record") op.2
-  record_at ← number_at (greatest 64) behind
+  later ← named (codes "record") op.2
+  record_at ← number_at (greatest 64) later
   options ← options_at 5 no_options record_at.1
   Some (fields_with op.0 op.1 record_at.0 options)
 

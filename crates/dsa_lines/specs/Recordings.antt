@@ -103,8 +103,8 @@ LinesSpellNone lines = (bytes : List ℕ) → ¬ LinesSpell lines bytes
 pub record LeavesRecordingAt (lines : List (List ℕ)) (number : ℕ) : Type 0 where
   pub before : List (List ℕ)
   pub line : List ℕ
-  pub behind : List (List ℕ)
-  pub lines_are : lines ≡ before ++ line ∷ behind
+  pub after : List (List ℕ)
+  pub lines_are : lines ≡ before ++ line ∷ after
   pub number_is : number ≡ length before + 1
   pub said : (rs : List Recorded) × (all_recorded before ≡ Some rs)
   pub outside : line_recorded (words_of line) ≡ None

@@ -58,6 +58,6 @@ line_len [] = 0
 line_len (c ∷ cs) = if c == 10 then 0 else suc (line_len cs)
 
 -- the lines after a newline
-abbrev pub lines_behind : List ℕ → List (List ℕ)
-lines_behind [] = []
-lines_behind (c ∷ cs) = lines_of cs
+abbrev pub lines_after : List ℕ → List (List ℕ)
+lines_after [] = []
+lines_after (c ∷ cs) = lines_of cs

@@ -46,9 +46,9 @@ fn bytes_of_lines(alloc: Global, text: &[u8]) -> Result<Vec<u8>, TextFault>
     let mut rest = text;
     let mut number: usize = 1;
     'lines: loop {
-        let (line, behind) = rest.split_at(line_len(rest));
+        let (line, after) = rest.split_at(line_len(rest));
         push_line(&mut bytes, line, number)?;
-        let [_newline, next @ ..] = behind else {
+        let [_newline, next @ ..] = after else {
             return Ok(bytes);
         };
         rest = next;
@@ -62,14 +62,14 @@ fn line_of_operation(text: &[u8], index: usize) -> usize {
     let mut number: usize = 1;
     let mut before: usize = 0;
     'lines: loop {
-        let (line, behind) = rest.split_at(line_len(rest));
+        let (line, after) = rest.split_at(line_len(rest));
         if let Ok(Some(_)) = operation_bytes(line) {
             if before == index {
                 return number;
             }
             before = before.saturating_add(1);
         }
-        let [_newline, next @ ..] = behind else {
+        let [_newline, next @ ..] = after else {
             return number;
         };
         rest = next;

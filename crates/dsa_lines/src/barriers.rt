@@ -81,11 +81,11 @@ fn marks_of(alloc: Global, text: &[u8], keep_fences: bool) -> Result<Vec<bool>, 
     let mut pending = false;
     let mut rest = text;
     'lines: loop {
-        let (line, behind) = rest.split_at(line_len(rest));
+        let (line, after) = rest.split_at(line_len(rest));
         let kind = line_kind(line);
         push_mark(&mut marks, keep_fences, pending, kind)?;
         pending = pending_after(pending, kind);
-        let [_newline, next @ ..] = behind else {
+        let [_newline, next @ ..] = after else {
             return Ok(marks);
         };
         rest = next;

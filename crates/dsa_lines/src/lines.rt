@@ -1,7 +1,7 @@
 //! The lines of a text.
 
 ghost use Rattle.std.specs.Prelude.{◌≡◌, ◌≤◌, ◌∷◌, length, take, drop};
-ghost use Rattle.dsa_lines.specs.Texts.{line_len, lines_of, lines_behind};
+ghost use Rattle.dsa_lines.specs.Texts.{line_len, lines_after, lines_of};
 
 /// How many bytes come before the first newline.
 #[tactic(auto, using(crate::proofs::TextLemmas::lines_at))]

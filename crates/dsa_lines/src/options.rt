@@ -226,10 +226,10 @@ pub(crate) fn options_at(text: &[u8]) -> Result<Options, Stop>
         if is_over(rest) {
             return Ok(options);
         }
-        let behind = after(rest, b",", Expected::CommaOrEnd)?;
-        let (next, behind) = option_at(options, behind)?;
+        let later = after(rest, b",", Expected::CommaOrEnd)?;
+        let (next, later) = option_at(options, later)?;
         options = next;
-        rest = behind;
+        rest = later;
     }
     if is_over(rest) {
         Ok(options)

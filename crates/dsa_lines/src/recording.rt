@@ -241,9 +241,9 @@ pub fn assemble_recording(alloc: Global, text: &[u8]) -> Result<Vec<u8>, TextFau
     let mut rest = text;
     let mut number: usize = 1;
     'lines: loop {
-        let (line, behind) = rest.split_at(line_len(rest));
+        let (line, later) = rest.split_at(line_len(rest));
         pending = push_recorded(&mut bytes, pending, line, number)?;
-        let [_newline, next @ ..] = behind else {
+        let [_newline, next @ ..] = later else {
             push_pending(&mut bytes, pending, &[0; 4])?;
             return Ok(bytes);
         };

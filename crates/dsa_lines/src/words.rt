@@ -36,7 +36,7 @@ pub(crate) fn skip_blanks(text: &[u8]) -> &[u8]
 
 /// What comes after the comment that the text begins in: its newline first, or nothing.
 #[tactic(auto, unfolding(crate::specs::Words::words_in))]
-fn behind_comment(text: &[u8]) -> &[u8]
+fn after_comment(text: &[u8]) -> &[u8]
     ensures words { words_of result.now ≡ words_in true text.now }
     ensures newline { 0 < length result.now → slice_index_or result.now 0 0 ≡ 10 }
 {
@@ -77,7 +77,7 @@ pub(crate) fn next_word(text: &[u8]) -> Option<(&[u8], &[u8])>
     }
     let first = text[0];
     if first == b'#' {
-        let rest = behind_comment(text);
+        let rest = after_comment(text);
         if rest.is_empty() {
             return None;
         }

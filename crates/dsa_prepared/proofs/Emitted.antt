@@ -11,7 +11,8 @@ use Rattle.dsa_descriptor.specs.Lists.{list_spelling}
 use Rattle.dsa_descriptor.specs.Profile.{IsListed}
 use Rattle.dsa_emission.specs.declared.place.Place.{Place}
 use Rattle.dsa_emission.specs.Emission.{is_batch, batch_count, batched_count, place_of, portal_entry, fenced_spelling, staged, joined, portal_bytes, staging_bytes}
-use Rattle.dsa_descriptor.proofs.Fenced.{unfenced_same}
+use Rattle.dsa_descriptor.proofs.Fenced.{fenced_if_even, unfenced_same}
+use Rattle.dsa_descriptor.proofs.Masks.{no_fence}
 use Rattle.dsa_plan.specs.Plan.{Group, Plan}
 use Rattle.dsa_plan.specs.Settings.{Limits}
 use Rattle.dsa_prepared.specs.Relocated.{relocated_fields}
@@ -69,7 +70,8 @@ module _ (rs : List Span) (bases : List ℕ) (staging : ℕ) (count : length bas
   fenced_filled [] fs all = refl
   fenced_filled (fence ∷ group) [] all = refl
   fenced_filled (fence ∷ group) (f ∷ fs) all =
-      let here = piece_filled rs bases staging count fence f all.0.listed all.0.lie in
+      let moved : Fields = relocated_fields (relocated (relocation rs bases)) f in
+      let here = piece_filled rs bases staging count fence f all.0.listed all.0.lie ∙ sym (fenced_if_even moved fence (no_fence f all.0.listed)) in
       let rest = fenced_filled group fs all.1 in
       λ i. here i ++ rest i
 

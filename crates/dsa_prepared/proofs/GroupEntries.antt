@@ -11,7 +11,7 @@ use Rattle.dsa_descriptor.specs.Fields.{Fields}
 use Rattle.dsa_descriptor.specs.Lists.{list_spelling}
 use Rattle.dsa_descriptor.specs.Pieces.{most_pieces}
 use Rattle.dsa_descriptor.specs.Spelling.{spelling}
-use Rattle.dsa_descriptor.proofs.Entries.{length-spelling}
+use Rattle.dsa_descriptor.proofs.Listed.{length-spelling}
 use Rattle.dsa_emission.specs.declared.place.Place.{Place}
 use Rattle.dsa_emission.specs.Emission.{batched, batched_count, is_batch, place_of}
 use Rattle.dsa_emission.proofs.Places.{batch_yes, batch_no, counts_within, place_of-next, group_read}

@@ -4,7 +4,7 @@ use Rattle.std.proofs.lemmas.List.{drop_more, drop_all}
 use Rattle.dsa_descriptor.specs.declared.span.Span.{Span}
 use Rattle.dsa_descriptor.specs.Spans.{InSpan}
 use Rattle.dsa_prepared.proofs.Regions.{in_tells}
-use Rattle.dsa_prepared.specs.Entries.{place_in, behind}
+use Rattle.dsa_prepared.specs.Entries.{place_in, one_further}
 
 -- a place that many regions further
 abbrev pub shifted : ℕ → ℕ × ℕ → ℕ × ℕ
@@ -23,7 +23,7 @@ pub goes_on : (rs : List Span) (a i : ℕ) (r : Span) → i < length rs → r �
 goes_on rs a i r lt is out h =
     let rest : List Span = drop (i + 1) rs in
     let cut : drop i rs ≡ r ∷ rest = drop_more rs i r lt ∙ ap (λ (x : Span). x ∷ rest) (sym is) in
-    let more : place_in (r ∷ rest) a ≡ behind (place_in rest a) =
+    let more : place_in (r ∷ rest) a ≡ one_further (place_in rest a) =
     elim (in_tells r a) [
       | inl (yes_is, inside) ↦ absurd (out inside)
       | inr (no_is, far) ↦ rw no_is refl

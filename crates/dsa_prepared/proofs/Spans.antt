@@ -25,10 +25,10 @@ ascend from [] all first = tt
 ascend from (r ∷ rs) all first =
     (first (omega arith), ascend (r.first + r.len) rs (regions_tail r rs all) (λ some. (all 1 (omega (arith, some))).1 0 refl))
 
-behind_all : (from : ℕ) (rs : List Span) → Ascend from rs → (a : ℕ) → InSome rs a → from ≤ a
-behind_all from [] h a here = absurd here
-behind_all from (r ∷ rs) h a (inl here) = omega (arith, h.0, here.0)
-behind_all from (r ∷ rs) h a (inr there) = let rest = behind_all (r.first + r.len) rs h.1 a there in omega (arith, h.0, rest)
+after_all : (from : ℕ) (rs : List Span) → Ascend from rs → (a : ℕ) → InSome rs a → from ≤ a
+after_all from [] h a here = absurd here
+after_all from (r ∷ rs) h a (inl here) = omega (arith, h.0, here.0)
+after_all from (r ∷ rs) h a (inr there) = let rest = after_all (r.first + r.len) rs h.1 a there in omega (arith, h.0, rest)
 
 pub bases_are : (rs : List Span) (bases : List ℕ) → length bases ≡ length rs → map base_span (relocation rs bases) ≡ rs
 bases_are [] bases count = refl
@@ -49,9 +49,9 @@ disjoint [] bases count all apart = tt
 disjoint (r ∷ rs) [] count all apart = absurd (omega (arith, count))
 disjoint (r ∷ rs) (base ∷ bases) count all apart =
     let count' : length bases ≡ length rs = omega (arith, count) in
-    let behind = ascend (r.first + r.len) rs (regions_tail r rs all) (λ some. (all 1 (omega (arith, some))).1 0 refl) in (
+    let after = ascend (r.first + r.len) rs (regions_tail r rs all) (λ some. (all 1 (omega (arith, some))).1 0 refl) in (
       λ a here there.
-          let b = behind_all (r.first + r.len) rs behind a (subst (λ (ss : List Span). InSome ss a) (bases_are rs bases count') there) in
+          let b = after_all (r.first + r.len) rs after a (subst (λ (ss : List Span). InSome ss a) (bases_are rs bases count') there) in
           omega (arith, here.1, b),
       λ a here there.
           let f = found_new rs bases count' a there in

@@ -19,14 +19,14 @@ use Rattle.dsa_prepared.specs.declared.entry.Entry.{Entry}
 -- ---- addresses
 
 -- the same place, with one region more before it
-abbrev pub behind : ℕ × ℕ → ℕ × ℕ
-behind p = (suc p.0, p.1)
+abbrev pub one_further : ℕ × ℕ → ℕ × ℕ
+one_further p = (suc p.0, p.1)
 
 -- the number of the first region that has the address, and the address's offset in it; for an address that lies in none,
 -- the number of regions and the address
 abbrev pub place_in : List Span → ℕ → ℕ × ℕ
 place_in [] address = (0, address)
-place_in (r ∷ rs) address = if has_address r address then (0, address - r.first) else behind (place_in rs address)
+place_in (r ∷ rs) address = if has_address r address then (0, address - r.first) else one_further (place_in rs address)
 
 -- the word for an address
 abbrev pub word_at : List Span → ℕ → Word

@@ -21,9 +21,9 @@ pub none_so_far : (fs : List Fields) (start : ℕ) (group : Group) (at : ℕ) �
 none_so_far fs start group at =
     record {
       each = All-nil (IsFoundSoFar fs start group at at at);
-      all = λ a b reached behind so_far _.
+      all = λ a b reached after so_far _.
           elim so_far [
-            | inl below ↦ absurd (omega (arith, behind, below))
+            | inl below ↦ absurd (omega (arith, after, below))
             | inr here ↦ absurd (omega (arith, here.1, reached.before))
           ];
       order = λ i j d lt within. absurd (omega (arith, within));
@@ -37,7 +37,7 @@ lower later i j a b le (inr here) = inr (here.0, omega (arith, here.1, le))
 found_lower : (fs : List Fields) (start : ℕ) (group : Group) (at later i j : ℕ) (r : Reason) → j ≤ i → IsFoundSoFar fs start group at later i r → IsFoundSoFar fs start group at later j r
 found_lower fs start group at later i j r le f = record {
   reached = f.reached;
-  behind = f.behind;
+  after = f.after;
   so_far = lower later i j r.earlier r.later le f.so_far;
   hazard = f.hazard;
 }
@@ -57,9 +57,9 @@ pub none_more : (fs : List Fields) (start : ℕ) (group : Group) (at later i : �
 none_more fs start group at later i rs lt apart h =
     record {
       each = All-weaker (IsFoundSoFar fs start group at later i) (IsFoundSoFar fs start group at later (i - 1)) (λ r f. found_lower fs start group at later i (i - 1) r (omega arith) f) rs h.each;
-      all = λ a b reached behind so_far meets.
+      all = λ a b reached after so_far meets.
           elim (one_lower later i a b lt so_far) [
-            | inl before ↦ h.all a b reached behind before meets
+            | inl before ↦ h.all a b reached after before meets
             | inr here ↦ absurd (apart (subst (λ (z : ℕ). ConflictAt fs z later) here.0 (subst (λ (z : ℕ). ConflictAt fs a z) here.1 meets)))
           ];
       order = h.order;
@@ -77,11 +77,11 @@ before_new fs start group at later i r new lt e l f =
 pub one_more : (fs : List Fields) (start : ℕ) (group : Group) (at later i : ℕ) (rs : List Reason) (new : Reason) → 0 < i → at ≤ later → new.earlier ≡ i - 1 → new.later ≡ later
     → IsReached start group at new.earlier → IsHazardOf fs new.earlier new.later new.hazard
     → HasReasonsSoFar fs start group at later i rs → HasReasonsSoFar fs start group at later (i - 1) (rs ++ new ∷ [])
-one_more fs start group at later i rs new lt behind e l reached hazard h =
+one_more fs start group at later i rs new lt after e l reached hazard h =
     record {
       each = All-push (IsFoundSoFar fs start group at later (i - 1)) rs new
           (All-weaker (IsFoundSoFar fs start group at later i) (IsFoundSoFar fs start group at later (i - 1)) (λ r f. found_lower fs start group at later i (i - 1) r (omega arith) f) rs h.each)
-          record { reached = reached; behind = omega (arith, behind, l); so_far = inr (l, omega (arith, e)); hazard = hazard };
+          record { reached = reached; after = omega (arith, after, l); so_far = inr (l, omega (arith, e)); hazard = hazard };
       all = λ a b there from so_far meets.
           elim (one_lower later i a b lt so_far) [
             | inl before ↦ any_kept (IsOfPair a b) rs new (h.all a b there from before meets)
@@ -93,7 +93,7 @@ one_more fs start group at later i rs new lt behind e l reached hazard h =
 later_lower : (fs : List Fields) (start : ℕ) (group : Group) (at later i : ℕ) (r : Reason) → IsFoundSoFar fs start group at later i r → IsFoundSoFar fs start group at (suc later) at r
 later_lower fs start group at later i r f = record {
   reached = f.reached;
-  behind = f.behind;
+  after = f.after;
   so_far = elim f.so_far [
     | inl below ↦ inl (omega (arith, below))
     | inr here ↦ inl (omega (arith, here.0))
@@ -107,11 +107,11 @@ pub row_done : (fs : List Fields) (start : ℕ) (group : Group) (at later i : �
 row_done fs start group at later i rs above h =
     record {
       each = All-weaker (IsFoundSoFar fs start group at later i) (IsFoundSoFar fs start group at (suc later) at) (λ r f. later_lower fs start group at later i r f) rs h.each;
-      all = λ a b reached behind so_far meets.
+      all = λ a b reached after so_far meets.
           elim so_far [
             | inl below ↦ elim (cases_lt b later) [
-              | inl before ↦ h.all a b reached behind (inl before) meets
-              | inr from ↦ h.all a b reached behind (inr (omega (arith, below, from), above a reached)) meets
+              | inl before ↦ h.all a b reached after (inl before) meets
+              | inr from ↦ h.all a b reached after (inr (omega (arith, below, from), above a reached)) meets
             ]
             | inr here ↦ absurd (omega (arith, here.1, reached.before))
           ];
@@ -129,12 +129,12 @@ one_reason fs start group at end r within open_here f =
       needs = record {
         conflicts = record {
           starts = f.reached.begun;
-          ordered = omega (arith, f.reached.before, f.behind);
+          ordered = omega (arith, f.reached.before, f.after);
           ends = omega (arith, before, within);
           conflict = hazard_conflicts fs r.earlier r.later r.hazard f.hazard;
         };
         before = f.reached.before;
-        behind = f.behind;
+        after = f.after;
         alone = λ other after up_to fenced.
             elim (cases_lt other at) [
               | inl below ↦ absurd (f.reached.open_between other after below fenced)
@@ -156,7 +156,7 @@ all_found fs start group at end rs after within open_here closed h =
       each = All-weaker (IsFoundSoFar fs start group at end at) (IsReason fs start group at) (λ r f. one_reason fs start group at end r within open_here f) rs h.each;
       all = λ a b needs.
           elim (cases_lt b end) [
-            | inl below ↦ h.all a b (needs_reached (ConflictAt fs) start group at a b needs) needs.behind (inl below) needs.conflicts.conflict
+            | inl below ↦ h.all a b (needs_reached (ConflictAt fs) start group at a b needs) needs.after (inl below) needs.conflicts.conflict
             | inr above ↦
                 let inside : end < start + length group = omega (arith, needs.conflicts.ends, above) in
                 let same : end ≡ at = needs.alone end (omega (arith, needs.before, after)) above (closed inside) in

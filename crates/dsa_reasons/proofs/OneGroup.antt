@@ -136,7 +136,7 @@ module _ (fs : List Fields) (plan : Plan) (number : ℕ) (group : Group) (k : �
           conflict = n.conflicts.conflict;
         };
         before = n.before;
-        behind = n.behind;
+        after = n.after;
         alone = λ other after up_to cut.
             let begun : start_of plan number < other = omega (arith, n.conflicts.starts, after) in
             let inside : other < start_of plan number + length group = omega (arith, up_to, n.conflicts.ends) in
@@ -148,7 +148,7 @@ module _ (fs : List Fields) (plan : Plan) (number : ℕ) (group : Group) (k : �
       elim (cases_lt a (start_of plan number)) [
         | inl below ↦
             let cut : IsFenced 0 (after_first (cuts plan)) (start_of plan number) = cut_fenced plan (start_of plan number) (omega (arith, below)) (begin_cut plan number group full is) in
-            let same : start_of plan number ≡ k = n.alone (start_of plan number) below (omega (arith, after_start, n.behind)) cut in
+            let same : start_of plan number ≡ k = n.alone (start_of plan number) below (omega (arith, after_start, n.after)) cut in
             absurd (omega (arith, same, after_start))
         | inr from ↦ from
       ]
@@ -171,7 +171,7 @@ module _ (fs : List Fields) (plan : Plan) (number : ℕ) (group : Group) (k : �
       record {
         conflicts = record { starts = starts; ordered = n.conflicts.ordered; ends = ends_here a b n; conflict = n.conflicts.conflict };
         before = n.before;
-        behind = n.behind;
+        after = n.after;
         alone = λ other after up_to (begun, set).
             let later : start_of plan number < other = omega (arith, starts, after) in
             let inside : other < start_of plan number + length group = omega (arith, slice_get_within group (other - start_of plan number) true set, begun) in

@@ -63,5 +63,5 @@ needs_reached C start group at a b needs =
       begun = needs.conflicts.starts;
       before = needs.before;
       open_between = λ other after before fenced.
-          let same : other ≡ at = needs.alone other after (omega (arith, needs.behind)) fenced in omega arith;
+          let same : other ≡ at = needs.alone other after (omega (arith, needs.after)) fenced in omega arith;
     }

@@ -13,7 +13,7 @@ use Rattle.dsa_reasons.specs.declared.reason.Reason.{Reason}
 pub record NeedsFence (C : ℕ → ℕ → Type 0) (start : ℕ) (group : Group) (k a b : ℕ) : Type 0 where
   pub conflicts : ConflictsWithin C start (start + length group) a b
   pub before : a < k
-  pub behind : k ≤ b
+  pub after : k ≤ b
   pub alone : (other : ℕ) → a < other → other ≤ b → IsFenced start group other → other ≡ k
 
 -- the earlier and the later piece have this hazard at its address
@@ -62,7 +62,7 @@ IsSoFar later i a b = (b < later) ⊎ ((b ≡ later) × (i ≤ a))
 -- the reason is one of those that were found up to there
 pub record IsFoundSoFar (pieces : List Fields) (start : ℕ) (group : Group) (k later i : ℕ) (r : Reason) : Type 0 where
   pub reached : IsReached start group k r.earlier
-  pub behind : k ≤ r.later
+  pub after : k ≤ r.later
   pub so_far : IsSoFar later i r.earlier r.later
   pub hazard : IsHazardOf pieces r.earlier r.later r.hazard
 

@@ -50,7 +50,7 @@ fn push_conflicts(
     later: usize,
 ) -> Result<(), AllocError>
     requires begun { start ≤ at }
-    requires behind { at ≤ later }
+    requires after { at ≤ later }
     requires within { later < start + length fences.now }
     requires known { start + length fences.now ≤ length pieces.now }
     requires few { length pieces.now ≤ most_pieces }

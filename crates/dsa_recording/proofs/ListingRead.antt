@@ -20,7 +20,7 @@ use Rattle.dsa_lines.specs.Texts.{lines_of, line_fields, all_fields, TextSpells}
 use Rattle.dsa_lines.specs.Words.{words_of}
 use Rattle.dsa_lines.proofs.LineLemmas.{is_line, line_append, canonical_is_line}
 use Rattle.dsa_lines.proofs.Marks.{barrier_spells}
-use Rattle.dsa_lines.proofs.ReadAgain.{line_before, nothing, digits_line, comment_behind, comment_read, commented_read}
+use Rattle.dsa_lines.proofs.ReadAgain.{line_before, nothing, digits_line, comment_after, comment_read, commented_read}
 use Rattle.dsa_lines.proofs.TextLemmas.{all_listed}
 use Rattle.dsa_ranges.specs.declared.span.Touched.{Touched}
 use Rattle.dsa_recording.specs.declared.stream.Submission.{Submission}
@@ -132,7 +132,7 @@ barrier_reads kind number e =
     let comment : is_line (32 ∷ (kind ++ (codes " fence of entry " ++ decimal number))) ≡ true = line_append (32 ∷ []) (kind ++ (codes " fence of entry " ++ decimal number)) refl (line_append kind (codes " fence of entry " ++ decimal number) e reason) in
     record {
       is = line_append (codes "barrier") (codes " # " ++ (kind ++ (codes " fence of entry " ++ decimal number))) refl comment;
-      spells = ap line_fields (comment_behind (codes "barrier") (32 ∷ (kind ++ (codes " fence of entry " ++ decimal number))) comment) ∙ barrier_spells;
+      spells = ap line_fields (comment_after (codes "barrier") (32 ∷ (kind ++ (codes " fence of entry " ++ decimal number))) comment) ∙ barrier_spells;
     }
 
 kind_read : (kind : List ℕ) (number : ℕ) (rest : List ℕ) (more : List Fields) → is_line kind ≡ true → TextSpells rest more → TextSpells ((barrier_for kind number ++ 10 ∷ []) ++ rest) more

@@ -206,7 +206,7 @@ takes_none es a is known right key t =
     is.each apart.at (omega (arith, apart.up_to, t.within, known)) in
     let fence : HasFence g apart.at =
     given_by C g h apart.at (get_or a.audit.unaccepted.places.items apart.at fence_place.NoFence) (right_at a.audit.unaccepted.places.items right apart.at) holds apart.fence in
-    t.unseparated apart.at apart.behind apart.up_to fence
+    t.unseparated apart.at apart.after apart.up_to fence
 
 -- what is so of a success is so of it in other words
 pub on_ok : {E : Type 0} (r : Result Unit E) (P Q : Type 0) → (P → Q) → OnOk r P → OnOk r Q

@@ -46,9 +46,9 @@ fn push_filled(text: &mut ArrayVec<u8, LONGEST_TEXT>, sentence: &[u8], first: u6
     ensures short { length text.new.items ≤ length text.old.items + longest sentence.now }
 {
     let mut rest = sentence;
-    while let [byte, behind @ ..] = rest {
+    while let [byte, after @ ..] = rest {
         push_filled_byte(text, *byte, first, second);
-        rest = behind;
+        rest = after;
     }
 }
 

@@ -229,7 +229,8 @@ fn first_unfenced_with(
     requires all { piece_count groups.now ≡ length pieces.now }
     requires few { length pieces.now ≤ most_pieces }
     ensures { MatchOption result
-        (IsFencedThroughout (WithBarriers (ConflictAt (map fields pieces.now)) barriers.now) groups.now)
+        (IsFencedThroughout (WithBarriers (ConflictAt (map fields pieces.now)) barriers.now)
+        groups.now)
         (λ p. IsFirstUnfenced (WithBarriers (ConflictAt (map fields pieces.now)) barriers.now)
         groups.now p.0 p.1) }
 {

@@ -141,7 +141,7 @@ fn fences_that_no_conflict_needs(rt: HostRuntime) -> Result<(), Fail> {
 
 /// The third move reads what the second writes, and the last what the first writes: the fence separates both.
 #[test]
-fn the_first_conflict_behind_a_fence(rt: HostRuntime) -> Result<(), Fail> {
+fn the_first_conflict_after_a_fence(rt: HostRuntime) -> Result<(), Fail> {
     let list = [
         (0x1000, 0x2000),
         (0x3000, 0x4000),

@@ -56,7 +56,7 @@ returns-in-Some-clause-rows c =
         count_none pairs x end from (λ b l. omega (arith, LeadsTo-same pairs x y b leads l, early)),
         h.before y end (omega (arith, later)) near (omega (arith, from, c.requires.begun)) early ∙ less_none (slice_index rows (place first 64 end)) fence,
       )
-      | inl late ↦ let (count, counted, is) = h.behind y end (omega (arith, later)) near late le in (count + 1, count_one_more pairs x end y count leads counted, is)
+      | inl late ↦ let (count, counted, is) = h.after y end (omega (arith, later)) near late le in (count + 1, count_one_more pairs x end y count leads counted, is)
     ])
     c.lower_row.new.rows (slice_set lasts (x - first) (slice_index lasts (y - first))) (slice_set counts (x - first) (slice_index counts (y - first) + 1))
     c.lower_row.ensures.kept c.lower_row.ensures.lowered c.lower_row.ensures.outside

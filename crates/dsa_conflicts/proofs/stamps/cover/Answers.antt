@@ -11,7 +11,7 @@ loop-place-preserved c =
     (set_covered c.loop-place.stamps c.loop-place.place c.args.stamp within)
 
 pub loop-place-init : goal.loop-place-init
-loop-place-init c = record { inside = λ p low high. absurd (omega (arith, low, high)); before = λ p lt. refl; behind = λ p ge. refl }
+loop-place-init c = record { inside = λ p low high. absurd (omega (arith, low, high)); before = λ p lt. refl; after = λ p ge. refl }
 
 pub bounds-stamps-place : goal.bounds-stamps-place
 bounds-stamps-place c = omega arith

@@ -1,5 +1,5 @@
 use Rattle.std.proofs.Common.{get_or, refl, sym, ◌∙◌, arith}
-use Rattle.dsa_forms.proofs.Spelled.{form_behind, form_here, form_end}
+use Rattle.dsa_forms.proofs.Spelled.{form_after, form_here, form_end}
 use Rattle.dsa_forms.proofs.forms.form_of.Goals as goal
 
 pub returns-then-not-is_spread : goal.returns-then-not-is_spread
@@ -10,7 +10,7 @@ returns-then-not-is_spread c =
 
 pub loop-byte-preserved : goal.loop-byte-preserved
 loop-byte-preserved c =
-    form_behind c.args.text.now c.loop-byte.byte-index (get_or c.args.text.now c.loop-byte.byte-index 0) c.loop-byte-test.true refl
+    form_after c.args.text.now c.loop-byte.byte-index (get_or c.args.text.now c.loop-byte.byte-index 0) c.loop-byte-test.true refl
     (sym c.is_spread.ensures ∙ c.if-not-is_spread.false) c.loop-byte.invariant
 
 pub returns : goal.returns

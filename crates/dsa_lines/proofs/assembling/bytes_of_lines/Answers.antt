@@ -2,7 +2,7 @@ use Rattle.std.proofs.Common.{◌≡◌, ℕ, ◌+◌, ◌<◌, List, [], ◌∷
 use Rattle.std.proofs.lemmas.Result.{err_from_is_err_and}
 use Rattle.dsa_descriptor.specs.Lists.{list_spelling}
 use Rattle.dsa_lines.specs.Words.{words_of}
-use Rattle.dsa_lines.specs.Texts.{lines_of, lines_behind, all_fields, line_fields}
+use Rattle.dsa_lines.specs.Texts.{lines_of, lines_after, all_fields, line_fields}
 use Rattle.dsa_lines.specs.Assembled.{LeavesGrammarAt}
 use Rattle.dsa_lines.proofs.AnswerLemmas.{stops_there}
 use Rattle.dsa_lines.proofs.TextLemmas.{fields_more, first_line, last_line, more_lines, next_shorter, no_fields, spelling_append}
@@ -62,7 +62,7 @@ returns-in_err-push_line c =
     λ e. record {
       before = i.before;
       line = line;
-      behind = lines_behind back;
+      after = lines_after back;
       lines_are = i.lines ∙ ap (λ (ls : List (List ℕ)). i.before ++ ls) lines;
       number_is = i.number;
       spelled = (i.done, i.spelled);

@@ -4,7 +4,7 @@ use Rattle.std.proofs.lemmas.Result.{err_from_is_err_and}
 use Rattle.dsa_lines.specs.declared.options.Options.{Options}
 use Rattle.dsa_lines.specs.Words.{words_of}
 use Rattle.dsa_lines.specs.Grammar.{options_at}
-use Rattle.dsa_lines.proofs.RoundTrip.{over, no_behind, no_next, next_turn, too_many}
+use Rattle.dsa_lines.proofs.RoundTrip.{over, no_after, no_next, next_turn, too_many}
 use Rattle.dsa_lines.proofs.options.options_at.Goals as goal
 
 pub loop-turn-init : goal.loop-turn-init
@@ -20,14 +20,14 @@ returns-then-is_over-clause-value c =
 pub returns-then-is_over-clause-small : goal.returns-then-is_over-clause-small
 returns-then-is_over-clause-small c = c.loop-turn.invariant.1
 
-pub returns-in_err-behind-clause-value : goal.returns-in_err-behind-clause-value
-returns-in_err-behind-clause-value c =
+pub returns-in_err-later-clause-value : goal.returns-in_err-later-clause-value
+returns-in_err-later-clause-value c =
     let lt : c.loop-turn._turn < 5 = omega arith in
     let p = err_from_is_err_and c.from_residual.result c.from_residual.ensures.1 in
     rw p.1 (
     sym c.loop-turn.invariant.0
-    ∙ no_behind c.loop-turn._turn c.loop-turn.options (words_of c.loop-turn.rest.now) lt
-    (λ e. absurd (true≢false (sym (c.is_over.ensures.1 e) ∙ c.if-is_over.false))) c.in_err-behind.ensures
+    ∙ no_after c.loop-turn._turn c.loop-turn.options (words_of c.loop-turn.rest.now) lt
+    (λ e. absurd (true≢false (sym (c.is_over.ensures.1 e) ∙ c.if-is_over.false))) c.in_err-later.ensures
     )
 
 pub returns-in_err-next-clause-value : goal.returns-in_err-next-clause-value
@@ -36,13 +36,13 @@ returns-in_err-next-clause-value c =
     let p = err_from_is_err_and c.from_residual-in_err-next.result c.from_residual-in_err-next.ensures.1 in
     rw p.1 (
     sym c.loop-turn.invariant.0
-    ∙ no_next c.loop-turn._turn c.loop-turn.options (words_of c.loop-turn.rest.now) _ lt c.in_ok-behind.ensures c.in_err-next.ensures.value
+    ∙ no_next c.loop-turn._turn c.loop-turn.options (words_of c.loop-turn.rest.now) _ lt c.in_ok-later.ensures c.in_err-next.ensures.value
     )
 
 pub loop-turn-preserved : goal.loop-turn-preserved
 loop-turn-preserved c =
     let lt : c.loop-turn._turn < 5 = omega arith in (
-      sym (next_turn c.loop-turn._turn c.loop-turn.options (words_of c.loop-turn.rest.now) _ _ lt c.in_ok-behind.ensures c.in_ok-next.ensures.value)
+      sym (next_turn c.loop-turn._turn c.loop-turn.options (words_of c.loop-turn.rest.now) _ _ lt c.in_ok-later.ensures c.in_ok-next.ensures.value)
           ∙ c.loop-turn.invariant.0,
       c.in_ok-next.ensures.small c.loop-turn.invariant.1,
     )

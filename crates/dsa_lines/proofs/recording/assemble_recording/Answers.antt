@@ -1,7 +1,7 @@
 use Rattle.std.proofs.Common.{◌≡◌, ℕ, ◌+◌, ◌<◌, List, [], ◌∷◌, ◌++◌, None, length, refl, sym, ap, ◌∙◌, append_assoc, length-append, arith}
 use Rattle.std.proofs.lemmas.Result.{err_from_is_err_and}
 use Rattle.dsa_lines.specs.Words.{words_of}
-use Rattle.dsa_lines.specs.Texts.{lines_of, lines_behind}
+use Rattle.dsa_lines.specs.Texts.{lines_of, lines_after}
 use Rattle.dsa_lines.specs.Recordings.{LeavesRecordingAt, all_recorded, line_recorded, recording_bytes}
 use Rattle.dsa_lines.proofs.RecordingLemmas.{at_last, no_recorded, recorded_more, stops_there}
 use Rattle.dsa_lines.proofs.TextLemmas.{first_line, last_line, more_lines, next_shorter}
@@ -61,7 +61,7 @@ returns-in_err-pending c =
     λ e. record {
       before = i.before;
       line = line;
-      behind = lines_behind back;
+      after = lines_after back;
       lines_are = i.lines ∙ ap (λ (ls : List (List ℕ)). i.before ++ ls) lines;
       number_is = i.number;
       said = (i.said, i.spelled);

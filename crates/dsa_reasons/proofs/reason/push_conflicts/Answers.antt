@@ -17,9 +17,9 @@ pub returns-then-fences-i : goal.returns-then-fences-i
 returns-then-fences-i c =
     let h = c.loop-i.invariant in
     let fs = map fields c.args.pieces.now in
-    let first : c.loop-i.i - 1 < length c.args.pieces.now = omega (arith, h.before, c.requires.behind, c.requires.within, c.requires.known) in
+    let first : c.loop-i.i - 1 < length c.args.pieces.now = omega (arith, h.before, c.requires.after, c.requires.within, c.requires.known) in
     let second : c.args.later < length c.args.pieces.now = omega (arith, c.requires.within, c.requires.known) in
-    let flagged : c.loop-i.i - 1 - c.args.start < length c.args.fences.now = omega (arith, h.before, c.loop-i-test.true, c.requires.behind, c.requires.within) in
+    let flagged : c.loop-i.i - 1 - c.args.start < length c.args.fences.now = omega (arith, h.before, c.loop-i-test.true, c.requires.after, c.requires.within) in
     let fenced : IsFenced c.args.start c.args.fences.now (c.loop-i.i - 1) =
     (omega (arith, c.loop-i-test.true), slice_get-get_or c.args.fences.now (c.loop-i.i - 1 - c.args.start) false flagged ∙ ap Some c.if-fences-i.true) in
     let seen = conflict_seen c.args.pieces.now (c.loop-i.i - 1) c.args.later c.index-pieces-i.result c.index-pieces-later.result c.touched.result.reads.items c.touched.result.writes.items
@@ -30,7 +30,7 @@ returns-then-fences-i c =
       | in-Some+in_ok-push w ↦
           let new : Reason = record { earlier = c.loop-i.i - 1; later = c.args.later; hazard = w.in-Some.hazard } in
           rw (w.reasons-is, w.in_ok-push.ensures.items)
-          (one_more fs c.args.start c.args.fences.now c.args.at c.args.later c.loop-i.i c.loop-i.reasons.items new (omega (arith, c.loop-i-test.true)) c.requires.behind refl refl
+          (one_more fs c.args.start c.args.fences.now c.args.at c.args.later c.loop-i.i c.loop-i.reasons.items new (omega (arith, c.loop-i-test.true)) c.requires.after refl refl
           record {
             begun = omega (arith, c.loop-i-test.true);
             before = omega (arith, h.before, c.loop-i-test.true);
@@ -57,9 +57,9 @@ pub loop-i-preserved : goal.loop-i-preserved
 loop-i-preserved c =
     let h = c.loop-i.invariant in
     let fs = map fields c.args.pieces.now in
-    let first : c.loop-i.i - 1 < length c.args.pieces.now = omega (arith, h.before, c.requires.behind, c.requires.within, c.requires.known) in
+    let first : c.loop-i.i - 1 < length c.args.pieces.now = omega (arith, h.before, c.requires.after, c.requires.within, c.requires.known) in
     let second : c.args.later < length c.args.pieces.now = omega (arith, c.requires.within, c.requires.known) in
-    let flagged : c.loop-i.i - 1 - c.args.start < length c.args.fences.now = omega (arith, h.before, c.loop-i-test.true, c.requires.behind, c.requires.within) in
+    let flagged : c.loop-i.i - 1 - c.args.start < length c.args.fences.now = omega (arith, h.before, c.loop-i-test.true, c.requires.after, c.requires.within) in
     let seen = conflict_seen c.args.pieces.now (c.loop-i.i - 1) c.args.later c.index-pieces-i.result c.index-pieces-later.result c.touched.result.reads.items c.touched.result.writes.items
     c.touched-waiting.result.reads.items c.touched-waiting.result.writes.items first second c.index-pieces-i.is c.index-pieces-later.is
     c.touched.ensures.reads c.touched.ensures.writes c.touched-waiting.ensures.reads c.touched-waiting.ensures.writes in
@@ -73,7 +73,7 @@ loop-i-preserved c =
             | in-Some+in_ok-push w ↦
                 let new : Reason = record { earlier = c.loop-i.i - 1; later = c.args.later; hazard = w.in-Some.hazard } in
                 rw (w.reasons-is, w.in_ok-push.ensures.items)
-                (one_more fs c.args.start c.args.fences.now c.args.at c.args.later c.loop-i.i c.loop-i.reasons.items new (omega (arith, c.loop-i-test.true)) c.requires.behind refl refl
+                (one_more fs c.args.start c.args.fences.now c.args.at c.args.later c.loop-i.i c.loop-i.reasons.items new (omega (arith, c.loop-i-test.true)) c.requires.after refl refl
                 record {
                   begun = omega (arith, c.loop-i-test.true);
                   before = omega (arith, h.before, c.loop-i-test.true);

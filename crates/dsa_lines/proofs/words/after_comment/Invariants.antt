@@ -1,6 +1,6 @@
 use Rattle.std.proofs.Common.{◌≡◌, true, length}
 use Rattle.dsa_lines.specs.Words.{words_in}
-use Rattle.dsa_lines.proofs.words.behind_comment.Given as goal
+use Rattle.dsa_lines.proofs.words.after_comment.Given as goal
 
 abbrev pub invariant-loop-rest : goal.invariant-loop-rest
 invariant-loop-rest l = words_in true l.rest ≡ words_in true l.text

@@ -5,12 +5,12 @@ use Rattle.serde_json.specs.Written.{compact_text}
 use Rattle.hex.specs.Hex.{encode_lower}
 use Rattle.dsa_report.proofs.Digits.{digits-nil}
 
-nothing_behind : (text : List ℕ) → text ++ ([] ++ ([] ++ ([] ++ []))) ≡ text
-nothing_behind text = append-nil text
+nothing_after : (text : List ℕ) → text ++ ([] ++ ([] ++ ([] ++ []))) ≡ text
+nothing_after text = append-nil text
 
 -- with no bytes that are kept
 pub text_alone : (text : List ℕ) → text ++ (encode_lower [] ++ ([] ++ (encode_lower [] ++ []))) ≡ text
-text_alone text = rw digits-nil (nothing_behind text)
+text_alone text = rw digits-nil (nothing_after text)
 
 member_joined : (text digits : List ℕ) → (text ++ 34 ∷ []) ++ (digits ++ (codes "\"}\n" ++ [])) ≡ (text ++ 34 ∷ (digits ++ 34 ∷ [])) ++ codes "}\n"
 member_joined text digits = simp append_assoc

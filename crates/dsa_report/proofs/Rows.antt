@@ -4,8 +4,6 @@ use Rattle.std.proofs.lemmas.Slice.Eq.{bytes_eq-Decides}
 use Rattle.std.proofs.lemmas.Map.Text.{is_eq-slice_cmp}
 use Rattle.std.specs.Cmp.Lexicographic.{slice_cmp}
 use Rattle.std.specs.Ordering.{match_ordering}
-use Rattle.std.specs.Prelude.{IsSome}
-use Rattle.std.proofs.lemmas.Option.{same_Some}
 use Rattle.std.specs.Str.{bytes_eq}
 use Rattle.std.specs.List.{AllByRecursion}
 use Rattle.serde_json.specs.Data.{Data, null, boolean, number, string, array, object, Members as Entries, no_members, member}
@@ -138,7 +136,7 @@ kept_is_read : {A : Type 0} (there : Bool) (kept : A → A) (held : HeldIf there
 kept_is_read true kept held found all is e = e ∙ ap (option_map kept) is
 kept_is_read false kept held found all is e = e ∙ ap (option_map kept) is
 
-option_same : {A : Type 0} (o : Option A) → option_map (λ x. x) o ≡ o
+pub option_same : {A : Type 0} (o : Option A) → option_map (λ x. x) o ≡ o
 option_same (Some a) = refl
 option_same None = refl
 
@@ -257,42 +255,3 @@ members_read d name m settings plan names named kept_settings_are kept_plan_is a
       staging = is_read (has name the_staging) (option_map (λ text. text.now) m.staging) has_staging;
       trace = slot_read (has name the_trace) SaysTrace (get (codes "trace") d) m.trace has_trace trace;
     }
-
--- ---- a job by what was read
-
-one_held : {A : Type 0} (there : Bool) (a b : HeldIf there A) (found : Option A) → IsRead there a found → IsRead there b found → a ≡ b
-one_held true a b found is is' = same_Some a b (sym is ∙ is')
-one_held false a b found is is' = refl
-
--- what was read are the members of one job
-one_read : (name : JobName) (j k : JobMembers name) (m : Members) → AreRead name j m → AreRead name k m → j.settings ≡ k.settings → j.certificate ≡ k.certificate → j.plan ≡ k.plan → j.trace ≡ k.trace → j ≡ k
-one_read name j k m a b settings certificate plan trace =
-    let engines = one_held (has name the_engines) j.engines k.engines m.engines a.engines b.engines in
-    let image = one_held (has name the_image) j.image k.image (option_map image_shown m.image) a.image b.image in
-    let list = one_held (has name the_list) j.list k.list (option_map (λ text. text.now) m.list) a.list b.list in
-    let portal = one_held (has name the_portal) j.portal k.portal (option_map (λ text. text.now) m.portal) a.portal b.portal in
-    let staging = one_held (has name the_staging) j.staging k.staging (option_map (λ text. text.now) m.staging) a.staging b.staging in
-    λ i. record {
-      settings = settings i;
-      certificate = certificate i;
-      engines = engines i;
-      image = image i;
-      list = list i;
-      plan = plan i;
-      portal = portal i;
-      staging = staging i;
-      trace = trace i;
-    }
-
-pub spelled_by : (d : Data) (name : JobName) (m : Members) (k : JobMembers name) (read : ReadsMembers d name (Some m)) → AreRead name k m → read.0.settings ≡ k.settings → read.0.certificate ≡ k.certificate → read.0.plan ≡ k.plan → read.0.trace ≡ k.trace → d ≡ named_value name k
-spelled_by d name m k (j, spelled, is) are settings certificate plan trace = spelled ∙ ap (named_value name) (one_read name j k m is are settings certificate plan trace)
-
--- what is shown of nothing is nothing
-pub none_shown : {X Y : Type 0} (o : Option X) (f : X → Y) (y : Y) → option_map f o ≡ Some y → o ≡ None → ⊥
-none_shown None f y e none = absurd (cc)
-none_shown (Some x) f y e none = cc
-
--- what a job has was read
-pub some_there : {X Y : Type 0} (o : Option X) (f : X → Y) (y : Y) → option_map f o ≡ Some y → IsSome o
-some_there (Some x) f y e = refl
-some_there None f y e = cc

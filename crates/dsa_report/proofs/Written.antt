@@ -19,8 +19,8 @@ part_before a b xs ys (n, short, part) = (
 )
 
 -- the first bytes and a part of what comes after them are a part of all
-pub part_behind : (a b d : Option (List ℕ)) (xs ys : List ℕ) → Appends a b xs → WritesPart b d ys → WritesPart a d (xs ++ ys)
-part_behind a b d xs ys before (n, short, part) = (
+pub part_after : (a b d : Option (List ℕ)) (xs ys : List ℕ) → Appends a b xs → WritesPart b d ys → WritesPart a d (xs ++ ys)
+part_after a b d xs ys before (n, short, part) = (
   length xs + n,
   omega (arith, short, length-append xs ys),
   subst (Appends a d) (sym (take-append-add xs ys n)) (Appends-trans a b d xs (take n ys) before part),
@@ -28,9 +28,9 @@ part_behind a b d xs ys before (n, short, part) = (
 
 -- so is a part of what comes after them, with more after that
 pub part_between : (a b d : Option (List ℕ)) (xs ys zs : List ℕ) → Appends a b xs → WritesPart b d ys → WritesPart a d (xs ++ (ys ++ zs))
-part_between a b d xs ys zs before part = part_behind a b d xs (ys ++ zs) before (part_before b d ys zs part)
+part_between a b d xs ys zs before part = part_after a b d xs (ys ++ zs) before (part_before b d ys zs part)
 
 -- the same where the last answer was that not all was taken
 pub part_last : (a b d : Option (List ℕ)) (xs ys : List ℕ) (whole : Bool) → Appends a b xs → OnFalse whole (WritesPart b d ys) → OnFalse whole (WritesPart a d (xs ++ ys))
 part_last a b d xs ys true before part = part
-part_last a b d xs ys false before part = part_behind a b d xs ys before part
+part_last a b d xs ys false before part = part_after a b d xs ys before part

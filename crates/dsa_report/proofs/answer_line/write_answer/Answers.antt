@@ -1,5 +1,5 @@
 use Rattle.hex.specs.Hex.{encode_lower}
-use Rattle.dsa_report.proofs.Written.{part_behind, part_between, part_last}
+use Rattle.dsa_report.proofs.Written.{part_after, part_between, part_last}
 use Rattle.dsa_report.proofs.answer_line.write_answer.Goals as goal
 
 pub returns-then-not-write_digits-clause-prefix : goal.returns-then-not-write_digits-clause-prefix
@@ -14,7 +14,7 @@ returns-then-not-write_line-2-clause-prefix g c =
     let line = c.args.line.now in
     let front = rw c.as_slice.ensures.value at c.if-not-write_line.ensures.whole in
     let first = rw c.as_slice-2.ensures.value at c.if-not-write_digits.ensures.whole in
-    part_behind _ _ _ line.front.items _ front
+    part_after _ _ _ line.front.items _ front
     (part_between _ _ _ (encode_lower line.first.items) line.middle.now _ first c.if-not-write_line-2.ensures.prefix)
 
 pub returns-then-not-write_digits-2-clause-prefix : goal.returns-then-not-write_digits-2-clause-prefix
@@ -23,8 +23,8 @@ returns-then-not-write_digits-2-clause-prefix g c =
     let front = rw c.as_slice.ensures.value at c.if-not-write_line.ensures.whole in
     let first = rw c.as_slice-2.ensures.value at c.if-not-write_digits.ensures.whole in
     let part = rw c.as_slice-3.ensures.value at c.if-not-write_digits-2.ensures.prefix in
-    part_behind _ _ _ line.front.items _ front
-    (part_behind _ _ _ (encode_lower line.first.items) _ first
+    part_after _ _ _ line.front.items _ front
+    (part_after _ _ _ (encode_lower line.first.items) _ first
     (part_between _ _ _ line.middle.now (encode_lower line.second.items) _ c.if-not-write_line-2.ensures.whole part))
 
 pub returns-clause-prefix : goal.returns-clause-prefix

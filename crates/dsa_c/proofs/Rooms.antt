@@ -11,7 +11,7 @@ use Rattle.dsa_descriptor.specs.Lists.{entries, list_spelling}
 use Rattle.dsa_descriptor.specs.Spelling.{spelling}
 use Rattle.dsa_descriptor.specs.Places.{u32_at}
 use Rattle.dsa_descriptor.proofs.Rules.{spelling_stands}
-use Rattle.dsa_descriptor.proofs.Entries.{chunks_spelt, length-list_spelling}
+use Rattle.dsa_descriptor.proofs.Listed.{chunks_spelt, length-list_spelling}
 use Rattle.dsa_image.specs.Lines.{quotient_up}
 use Rattle.dsa_plan.specs.Plan.{Plan, Group, piece_count}
 use Rattle.dsa_plan.specs.Settings.{Limits}

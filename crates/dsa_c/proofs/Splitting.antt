@@ -1,16 +1,13 @@
--- The pieces of a list for a tracker, or why it has none.
-use Rattle.std.proofs.Common.{◌≡◌, ◌⊎◌, inl, inr, ℕ, ◌≤◌, Bool, List, Err, refl, ap, subst, ◌∙◌}
+-- The pieces of a list for a tracker.
+use Rattle.std.proofs.Common.{◌≡◌, ◌⊎◌, ℕ, Bool, List, subst}
 use Rattle.dsa_descriptor.specs.declared.descriptor.Descriptor.{Descriptor}
-use Rattle.dsa_settings.specs.Settings.{Limits, AreBatchPrices, AreInLimits}
+use Rattle.dsa_settings.specs.Settings.{Limits, AreBatchPrices}
 use Rattle.dsa_settings.specs.Outside.{IsFirstOutside}
 use Rattle.dsa_settings.specs.declared.setting.Setting.TheVariants.{Batch}
-use Rattle.dsa_calls.specs.declared.fault.PlanFault.{PlanFault}
-use Rattle.dsa_calls.specs.declared.fault.PlanFault.TheVariants.{Memory}
-use Rattle.dsa_calls.specs.Fenced.{AreFencedPieces, PlansFenced}
-use Rattle.dsa_c.specs.declared.refusal.RawRefusal.{RawRefusal}
+use Rattle.dsa_calls.specs.Fenced.{AreFencedPieces}
 use Rattle.dsa_c.specs.declared.settings.RawSettings.{RawSettings}
-use Rattle.dsa_c.specs.Raw.{limits_of, prices_in, refusal_of, AreSettings, HaveLimits}
-use Rattle.dsa_c.specs.Tracking.{ArePiecesUnder, RefusesToSplit}
+use Rattle.dsa_c.specs.Raw.{limits_of, prices_in, AreSettings, HaveLimits}
+use Rattle.dsa_c.specs.Tracking.{ArePiecesUnder}
 
 -- ---- settings
 
@@ -52,9 +49,3 @@ pub are_pieces : (s : RawSettings) (table list : List ℕ) (l : Limits) (pieces 
     → AreFencedPieces list l pieces barriers → ArePiecesUnder s table list pieces barriers
 are_pieces s table list l pieces barriers is are found =
     record { settings = are; pieces_are = subst (λ (x : Limits). AreFencedPieces list x pieces barriers) is found }
-
-pub refuses_to_split : (s : RawSettings) (table list : List ℕ) (l : Limits) (fault : PlanFault) (r : RawRefusal) → l ≡ limits_of s table → AreSettings s table
-    → (fault ≡ Memory) ⊎ PlansFenced list l (Err fault) → r ≡ refusal_of fault → RefusesToSplit s table list r
-refuses_to_split s table list l fault r is are (inl memory) value = inr (inl (value ∙ ap refusal_of memory, are))
-refuses_to_split s table list l fault r is are (inr refused) value =
-    inr (inr (fault, are, subst (λ (x : Limits). PlansFenced list x (Err fault)) is refused, value))

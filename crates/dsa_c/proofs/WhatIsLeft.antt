@@ -1,9 +1,6 @@
 -- What resuming a list of C answers, from its parts.
-use Rattle.std.proofs.Common.{◌≡◌, ◌⊎◌, inl, inr, ℕ, ◌<◌, List, length, Ok, Err, ap, sym, subst, ◌∙◌}
+use Rattle.std.proofs.Common.{◌≡◌, inr, ℕ, ◌<◌, List, length, Ok, ap, subst, ◌∙◌}
 use Rattle.dsa_plan.specs.Settings.{Limits}
-use Rattle.dsa_calls.specs.declared.fault.PlanFault.TheVariants.{Memory}
-use Rattle.dsa_resume.specs.declared.fault.ResumeFault.{ResumeFault}
-use Rattle.dsa_resume.specs.declared.fault.ResumeFault.TheVariants.{Plan}
 use Rattle.dsa_resume.specs.declared.left.LeftOrder.{LeftOrder}
 use Rattle.dsa_resume.specs.Rest.{Remainder}
 use Rattle.dsa_resume.specs.Resumed.{CanBePlannedAgain, Resumes}
@@ -12,7 +9,7 @@ use Rattle.dsa_c.specs.declared.settings.RawSettings.{RawSettings}
 use Rattle.dsa_c.specs.declared.refusal.RawRefusal.{RawRefusal}
 use Rattle.dsa_c.specs.Preparing.{refusal_at}
 use Rattle.dsa_c.specs.Raw.{limits_of, AreSettings}
-use Rattle.dsa_c.specs.Resuming.{order_of, rest_bytes, resume_refusal_of, IsLeftOf, RefusesResume}
+use Rattle.dsa_c.specs.Resuming.{order_of, rest_bytes, IsLeftOf, RefusesResume}
 
 module _ (s : RawSettings) (table list records given_up : List ℕ) (failed_first : ℕ) (l : Limits) (order : LeftOrder) (is : l ≡ limits_of s table) (are : AreSettings s table)
     (same : order ≡ order_of failed_first) where
@@ -26,22 +23,9 @@ module _ (s : RawSettings) (table list records given_up : List ℕ) (failed_firs
     again = rest_can_be_listed (limits_of s table) rest (subst (λ (x : Limits). CanBePlannedAgain x rest) is again);
   }
 
-  -- resuming refuses
-  pub refuses_list : (room : ℕ) (fault : ResumeFault) (r : RawRefusal) → (fault ≡ Plan Memory) ⊎ Resumes l list records given_up order (Err fault) → r ≡ resume_refusal_of fault
-      → RefusesResume s table list records given_up failed_first room r
-  refuses_list room fault r (inl memory) value = inr (inl (value ∙ ap resume_refusal_of memory, are))
-  refuses_list room fault r (inr refused) value =
-      inr (inr (inl (
-        fault,
-        are,
-        subst (λ (o : LeftOrder). Resumes (limits_of s table) list records given_up o (Err fault)) same
-            (subst (λ (x : Limits). Resumes x list records given_up order (Err fault)) is refused),
-        value,
-      )))
-
 -- the buffer is too small
 pub refuses_room : (s : RawSettings) (table list records given_up : List ℕ) (failed_first room : ℕ) (rest : Remainder) (bytes : List ℕ) (r : RawRefusal) (count : ℕ)
     → IsLeftOf s table list records given_up failed_first rest → bytes ≡ rest_bytes rest → room < length bytes → r ≡ refusal_at 93 count 0 → count ≡ length bytes
     → RefusesResume s table list records given_up failed_first room r
 refuses_room s table list records given_up failed_first room rest bytes r count left same short value is =
-    inr (inr (inr (rest, left, subst (λ (bs : List ℕ). room < length bs) same short, value ∙ ap (λ (n : ℕ). refusal_at 93 n 0) (is ∙ ap length same))))
+    inr (rest, left, subst (λ (bs : List ℕ). room < length bs) same short, value ∙ ap (λ (n : ℕ). refusal_at 93 n 0) (is ∙ ap length same))

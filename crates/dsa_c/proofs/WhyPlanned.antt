@@ -1,49 +1,40 @@
--- What explaining the plan of a list of C answers, from its parts.
-use Rattle.std.proofs.Common.{◌≡◌, ◌⊎◌, inl, inr, ℕ, ◌<◌, ◌≤◌, Bool, List, length, map, Ok, Err, ap, subst, ◌∙◌, arith}
+-- The pieces of a list that is planned, and why there is no room for what is said of its plan.
+use Rattle.std.proofs.Common.{◌≡◌, inl, inr, ℕ, ◌<◌, ◌≤◌, Bool, List, length, map, Some, slice_get, ap, subst, ◌∙◌, arith}
 use Rattle.std.proofs.lemmas.List.{length-map}
+use Rattle.std.proofs.lemmas.Option.{slice_get_within}
 use Rattle.dsa_descriptor.specs.declared.descriptor.Descriptor.{Descriptor}
 use Rattle.dsa_descriptor.specs.Descriptors.{fields}
+use Rattle.dsa_descriptor.specs.Fields.{Fields}
 use Rattle.dsa_descriptor.specs.Pieces.{most_pieces}
+use Rattle.dsa_descriptor.specs.Spans.{InSpan}
+use Rattle.dsa_settings.specs.Staging.{staging_area}
 use Rattle.dsa_plan.specs.Settings.{Limits}
+use Rattle.dsa_splitter.specs.Pieces.{all_pieces}
+use Rattle.dsa_splitter.specs.Rules.{piece_total}
 use Rattle.dsa_splitter.proofs.Walks.{length_all}
-use Rattle.dsa_calls.specs.declared.fault.PlanFault.{PlanFault}
-use Rattle.dsa_calls.specs.declared.fault.PlanFault.TheVariants.{Memory}
-use Rattle.dsa_calls.specs.Fenced.{AreFencedPieces, IsFencedLeast, PlansFenced}
-use Rattle.dsa_calls.specs.Planned.{Submission}
-use Rattle.dsa_c.specs.declared.reasons.RawReason.{RawReason}
+use Rattle.dsa_calls.specs.Fenced.{AreFencedPieces}
+use Rattle.dsa_resume.specs.Shared.{IsSpare}
 use Rattle.dsa_c.specs.declared.refusal.RawRefusal.{RawRefusal}
 use Rattle.dsa_c.specs.declared.settings.RawSettings.{RawSettings}
-use Rattle.dsa_c.specs.Explaining.{IsExplainedFor, RefusesExplain}
+use Rattle.dsa_c.specs.Planning.{About, AreOfPlan, RefusesOfPlan}
 use Rattle.dsa_c.specs.Preparing.{refusal_at}
-use Rattle.dsa_c.specs.Raw.{limits_of, AreSettings, refusal_of}
-use Rattle.dsa_c.specs.Reasons.{AreReasonsOf}
-use Rattle.dsa_c.proofs.Refusing.{planned_for}
 
--- the pieces of a list are few
-pub few_pieces : (list : List ℕ) (l : Limits) (pieces : List Descriptor) (barriers : List Bool) → AreFencedPieces list l pieces barriers → length pieces ≤ most_pieces
-few_pieces list l pieces barriers h =
-    omega (arith, h.split.few.few, length_all (map fields h.operations) l.greatest_transfer, ap length h.pieces_are, length-map pieces fields)
+module _ (list : List ℕ) (l : Limits) (pieces : List Descriptor) (barriers : List Bool) (h : AreFencedPieces list l pieces barriers) where
+  -- the pieces are few
+  pub few_pieces : length pieces ≤ most_pieces
+  few_pieces = omega (arith, h.split.few.few, length_all (map fields h.operations) l.greatest_transfer, ap length h.pieces_are, length-map pieces fields)
 
-module _ (s : RawSettings) (table list : List ℕ) (l : Limits) (is : l ≡ limits_of s table) (are : AreSettings s table) where
-  -- the reasons under the settings that the numbers are
-  pub explained_for : (p : Submission) (barriers : List Bool) (reasons : List RawReason) → PlansFenced list l (Ok p) → IsFencedLeast list l p
-      → AreFencedPieces list l p.pieces barriers → AreReasonsOf p.pieces barriers p.plan reasons → IsExplainedFor s table list reasons
-  explained_for p barriers reasons plans least pieces whys = record {
-    submission = p;
-    planned = planned_for s table list l p is are plans least;
-    barriers = barriers;
-    pieces = subst (λ (x : Limits). AreFencedPieces list x p.pieces barriers) is pieces;
-    are = whys;
-  }
-
-  -- planning refuses
-  pub refuses_list : (room : ℕ) (fault : PlanFault) (r : RawRefusal) → (fault ≡ Memory) ⊎ PlansFenced list l (Err fault) → r ≡ refusal_of fault → RefusesExplain s table list room r
-  refuses_list room fault r (inl memory) value = inr (inl (value ∙ ap refusal_of memory, are))
-  refuses_list room fault r (inr refused) value =
-      inr (inr (inl (fault, are, subst (λ (x : Limits). PlansFenced list x (Err fault)) is refused, value)))
+  -- the first byte of the staging area is in no record of theirs
+  pub staging_is_spare : IsSpare l.staging (map fields pieces)
+  staging_is_spare i f there inside =
+      let fs : List Fields = map fields h.operations in
+      let at : slice_get (all_pieces fs l.greatest_transfer) i ≡ Some f = subst (λ (ps : List Fields). slice_get ps i ≡ Some f) h.pieces_are there in
+      let some : i < length (all_pieces fs l.greatest_transfer) = slice_get_within (all_pieces fs l.greatest_transfer) i f at in
+      let in_area : InSpan (staging_area l.staging (piece_total l.greatest_transfer fs)) l.staging = (omega arith, omega (arith, some, length_all fs l.greatest_transfer)) in
+      h.split.clear i f at (l.staging, in_area, inr (inl inside))
 
 -- the array is too small
-pub refuses_room : (s : RawSettings) (table list : List ℕ) (room : ℕ) (reasons : List RawReason) (r : RawRefusal) (count : ℕ)
-    → IsExplainedFor s table list reasons → room < length reasons → r ≡ refusal_at 94 count 0 → count ≡ length reasons → RefusesExplain s table list room r
-refuses_room s table list room reasons r count explained short value is =
-    inr (inr (inr (reasons, explained, short, value ∙ ap (λ (n : ℕ). refusal_at 94 n 0) is)))
+pub refuses_room : {X : Type 0} (Are : About X) (number : ℕ) (s : RawSettings) (table list : List ℕ) (room : ℕ) (items : List X) (r : RawRefusal) (count : ℕ)
+    → AreOfPlan Are s table list items → room < length items → r ≡ refusal_at number count 0 → count ≡ length items → RefusesOfPlan Are number s table list room r
+refuses_room Are number s table list room items r count of_plan short value is =
+    inr (items, of_plan, short, value ∙ ap (λ (n : ℕ). refusal_at number n 0) is)

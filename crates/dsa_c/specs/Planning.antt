@@ -1,17 +1,18 @@
 -- What planning into buffers promises.
-use Rattle.std.specs.Prelude.{◌≡◌, ◌⊎◌, ℕ, ◌+◌, ◌≤◌, List, length, map, Ok, Err}
+use Rattle.std.specs.Prelude.{◌≡◌, ◌⊎◌, ℕ, ◌+◌, ◌<◌, ◌≤◌, Bool, List, length, map, Ok, Err}
 use Rattle.dsa_c.specs.Marks.{marks_of}
-use Rattle.dsa_calls.specs.declared.fault.PlanFault.{PlanFault}
-use Rattle.dsa_calls.specs.declared.fault.PlanFault.TheVariants.{Memory}
-use Rattle.dsa_calls.specs.Fenced.{IsFencedLeast, PlansFenced}
+use Rattle.dsa_calls.specs.Fenced.{AreFencedPieces, IsFencedLeast, PlansFenced}
 use Rattle.dsa_calls.specs.FencedChecked.{ChecksFenced}
 use Rattle.dsa_calls.specs.Planned.{Submission}
+use Rattle.dsa_descriptor.specs.declared.descriptor.Descriptor.{Descriptor}
+use Rattle.dsa_plan.specs.Plan.{Plan}
 use Rattle.dsa_c.specs.declared.settings.RawSettings.{RawSettings}
 use Rattle.dsa_c.specs.declared.refusal.RawRefusal.{RawRefusal}
 use Rattle.dsa_c.specs.declared.planning.RawPlanned.{RawPlanned}
 use Rattle.dsa_c.specs.declared.certificate.RawPair.{RawPair}
-use Rattle.dsa_c.specs.Raw.{limits_of, AreSettings, RefusesSettings, written, refusal_of, no_room, no_room_for_certificate}
+use Rattle.dsa_c.specs.Raw.{limits_of, AreSettings, RefusesUnder, written, refusal_of, no_room, no_room_for_certificate}
 use Rattle.dsa_c.specs.Certificates.{raw_pair_of}
+use Rattle.dsa_c.specs.Preparing.{refusal_at}
 
 -- this is what planning the bytes answers, whose fences are barriers: the plan is legal with them, no such plan costs less,
 -- the certificate is good for its cost, and checking the bytes that submit it for the list, with the certificate, answers
@@ -39,13 +40,14 @@ pub record IsWritten (s : RawSettings) (table list portal new_portal staging new
   pub staging_is : new_staging ≡ written submission.staging staging
   pub summary_is : summary ≡ summary_of submission
 
--- Why nothing is written: the numbers are no settings, and one is named; an allocation failed; planning refuses the list,
--- for this fault; or the bytes of what it answers don't fit, and this is what they need.
+-- why a list is not planned
+abbrev pub RefusesToPlan : RawSettings → List ℕ → List ℕ → RawRefusal → Type 0
+RefusesToPlan s table list r = RefusesUnder refusal_of (λ l fault. PlansFenced list l (Err fault)) s table r
+
+-- why nothing is written: the list is not planned; or the bytes of what it answers don't fit, and this is what they need
 abbrev pub Refuses : RawSettings → List ℕ → List ℕ → ℕ → ℕ → RawRefusal → Type 0
 Refuses s table list portal staging r =
-    RefusesSettings s table r
-    ⊎ ((r ≡ refusal_of Memory) × AreSettings s table)
-    ⊎ ((fault : PlanFault) × AreSettings s table × PlansFenced list (limits_of s table) (Err fault) × (r ≡ refusal_of fault))
+    RefusesToPlan s table list r
     ⊎ ((p : Submission) × IsPlannedFor s table list p × (¬ FitsIn p portal staging) × (r ≡ no_room (length p.portal) (length p.staging)))
 
 -- the certificate and the marks of the pieces fit in arrays of these lengths: n + 1 prices, n pairs and n marks of n pieces
@@ -72,3 +74,35 @@ RefusesCertified s table list portal staging prices pairs marks r =
     Refuses s table list portal staging r
     ⊎ ((p : Submission) × IsPlannedFor s table list p × FitsIn p portal staging × (¬ CertificateFitsIn p prices pairs marks)
     × (r ≡ no_room_for_certificate (length p.pieces)))
+
+-- ---- what is said of a plan, item by item, into an array
+
+-- this is what planning the bytes answers, and the barriers of its pieces
+abbrev pub IsPlannedWith : RawSettings → List ℕ → List ℕ → Submission → List Bool → Type 0
+IsPlannedWith s table list p barriers = IsPlannedFor s table list p × AreFencedPieces list (limits_of s table) p.pieces barriers
+
+-- what is said of pieces, their barriers and their plan, item by item
+abbrev pub About : Type 0 → Type 1
+About X = List Descriptor → List Bool → Plan → List X → Type 0
+
+-- the items are those of the plan that planning the list answers, with its pieces and their barriers
+pub record AreOfPlan {X : Type 0} (Are : About X) (s : RawSettings) (table list : List ℕ) (items : List X) : Type 0 where
+  pub submission : Submission
+  pub barriers : List Bool
+  pub planned : IsPlannedWith s table list submission barriers
+  pub are : Are submission.pieces barriers submission.plan items
+
+-- they are at the front of the array, whose rest is unchanged, and there are so many
+pub record AreOfPlanInto {X : Type 0} (Are : About X) (s : RawSettings) (table list : List ℕ) (array new_array : List X) (count : ℕ) : Type 0 where
+  pub items : List X
+  pub of_plan : AreOfPlan Are s table list items
+  pub fits : length items ≤ length array
+  pub array_is : new_array ≡ written items array
+  pub count_is : count ≡ length items
+
+-- why nothing is written: the list is not planned; or the items do not fit, and the refusal of this number says how many
+-- there are
+abbrev pub RefusesOfPlan : {X : Type 0} → About X → ℕ → RawSettings → List ℕ → List ℕ → ℕ → RawRefusal → Type 0
+RefusesOfPlan {X} Are number s table list room r =
+    RefusesToPlan s table list r
+    ⊎ ((items : List X) × AreOfPlan Are s table list items × (room < length items) × (r ≡ refusal_at number (length items) 0))

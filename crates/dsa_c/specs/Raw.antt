@@ -7,6 +7,7 @@ use Rattle.dsa_plan.specs.Settings.{BatchPrices, Limits, AreInLimits, limits}
 use Rattle.dsa_plan.specs.Settings.BatchPrices.{SamePrice, BySize}
 use Rattle.dsa_descriptor.specs.Causes.{index_list}
 use Rattle.dsa_calls.specs.declared.fault.PlanFault.{PlanFault}
+use Rattle.dsa_calls.specs.declared.fault.PlanFault.TheVariants.{Memory}
 use Rattle.dsa_calls.specs.declared.fault.InnerFault.{InnerFault}
 use Rattle.dsa_calls.specs.Fault.{fault_number, fault_indices, fault_inner, inner_number, inner_indices}
 use Rattle.dsa_sentences.specs.Texts.{refusal_text}
@@ -90,6 +91,14 @@ refusal_of fault =
       first = slice_index_or (all_places fault) 0 0;
       second = slice_index_or (all_places fault) 1 0;
     }
+
+-- why a call refuses under settings: the numbers are no settings, and one is named; an allocation failed; or the call has a
+-- fault, and this is its refusal
+abbrev pub RefusesUnder : {F : Type 0} → (F → RawRefusal) → (Limits → F → Type 0) → RawSettings → List ℕ → RawRefusal → Type 0
+RefusesUnder {F} refusal_of_fault HasFault s table r =
+    RefusesSettings s table r
+    ⊎ ((r ≡ refusal_of Memory) × AreSettings s table)
+    ⊎ ((fault : F) × AreSettings s table × HasFault (limits_of s table) fault × (r ≡ refusal_of_fault fault))
 
 -- the refusal of buffers that are too small: number 90, and the bytes that each needs (this project's choice)
 abbrev pub no_room : ℕ → ℕ → RawRefusal

@@ -2,7 +2,6 @@
 use Rattle.std.specs.Prelude.{◌≡◌, ◌⊎◌, ℕ, ◌<◌, ◌≤◌, ◌==◌, List, Option, Some, None, length, map, Ok, Err, if◌then◌else◌}
 use Rattle.dsa_descriptor.specs.Descriptors.{fields}
 use Rattle.dsa_descriptor.specs.Fences.{marked_spelling}
-use Rattle.dsa_calls.specs.declared.fault.PlanFault.TheVariants.{Memory}
 use Rattle.dsa_resume.specs.declared.fault.ResumeFault.{ResumeFault}
 use Rattle.dsa_resume.specs.declared.fault.ResumeFault.TheVariants.{Plan, NotFailed, PassedBarrier, Records, SharedRecord}
 use Rattle.dsa_resume.specs.declared.left.LeftOrder.{LeftOrder}
@@ -14,7 +13,7 @@ use Rattle.dsa_c.specs.declared.resuming.RawResumed.{RawResumed}
 use Rattle.dsa_c.specs.declared.settings.RawSettings.{RawSettings}
 use Rattle.dsa_c.specs.declared.refusal.RawRefusal.{RawRefusal}
 use Rattle.dsa_c.specs.Preparing.{refusal_at}
-use Rattle.dsa_c.specs.Raw.{limits_of, AreSettings, RefusesSettings, written, refusal_of}
+use Rattle.dsa_c.specs.Raw.{limits_of, AreSettings, RefusesUnder, written, refusal_of}
 
 -- the order that a number asks for: 0 as listed, any other the failed pieces first (this project's choice)
 abbrev pub order_of : ℕ → LeftOrder
@@ -71,13 +70,9 @@ pub record IsResumedInto (s : RawSettings) (table list records given_up : List �
   pub fits : length bytes ≤ length buffer
   pub buffer_is : new_buffer ≡ written bytes buffer
 
--- Why nothing is written: the numbers are no settings, and one is named; an allocation failed; resuming refuses the list
--- for this fault; or what is left does not fit, and so many bytes are needed.
+-- why nothing is written: resuming refuses the list; or what is left does not fit, and so many bytes are needed
 abbrev pub RefusesResume : RawSettings → List ℕ → List ℕ → List ℕ → List ℕ → ℕ → ℕ → RawRefusal → Type 0
 RefusesResume s table list records given_up failed_first room r =
-    RefusesSettings s table r
-    ⊎ ((r ≡ refusal_of Memory) × AreSettings s table)
-    ⊎ ((fault : ResumeFault) × AreSettings s table × Resumes (limits_of s table) list records given_up (order_of failed_first) (Err fault)
-    × (r ≡ resume_refusal_of fault))
+    RefusesUnder resume_refusal_of (λ l fault. Resumes l list records given_up (order_of failed_first) (Err fault)) s table r
     ⊎ ((rest : Remainder) × IsLeftOf s table list records given_up failed_first rest × (room < length (rest_bytes rest))
     × (r ≡ no_room_for_list (length (rest_bytes rest))))

@@ -1,5 +1,5 @@
 -- What the calls of a tracker in an array of words promise.
-use Rattle.std.specs.Prelude.{◌≡◌, ◌≢◌, ◌⊎◌, ℕ, ◌≤◌, ◌==◌, Bool, List, length, map, min, nat_lt, slice_get, slice_index_or, if◌then◌else◌, Err}
+use Rattle.std.specs.Prelude.{◌≡◌, ◌≢◌, ◌⊎◌, ℕ, ◌≤◌, ◌==◌, Bool, List, length, map, min, nat_lt, slice_get, slice_index_or, if◌then◌else◌}
 use Rattle.dsa_descriptor.specs.declared.descriptor.Descriptor.{Descriptor}
 use Rattle.dsa_descriptor.specs.declared.span.Span.{Span}
 use Rattle.dsa_descriptor.specs.Causes.{index_list}
@@ -10,9 +10,8 @@ use Rattle.dsa_plan.specs.EmissionFaults.{IsEmission, IsFirstEmissionFault}
 use Rattle.dsa_plan.specs.Plan.{Plan}
 use Rattle.dsa_emission.specs.declared.emission_fault.EmissionFault.{EmissionFault}
 use Rattle.dsa_emission.specs.declared.emission_fault.EmissionFault.TheVariants.{Memory as EmissionMemory}
-use Rattle.dsa_calls.specs.declared.fault.PlanFault.{PlanFault}
 use Rattle.dsa_calls.specs.declared.fault.PlanFault.TheVariants.{Emission as InEmission, Memory}
-use Rattle.dsa_calls.specs.Fenced.{AreFencedPieces, PlansFenced}
+use Rattle.dsa_calls.specs.Fenced.{AreFencedPieces}
 use Rattle.dsa_tracker.specs.declared.fault.WordsFault.{WordsFault}
 use Rattle.dsa_tracker.specs.declared.fault.WordsFault.TheVariants.{NotATracker}
 use Rattle.dsa_tracker.specs.declared.slots.Slots.{Slots}
@@ -25,6 +24,7 @@ use Rattle.dsa_tracker.specs.Table.{ConflictsWith, IsExactly, IsHeld, IsReady, W
 use Rattle.dsa_tracker.specs.Words.{AreMeasures, IsShapedIn, IsTracker, RefusesIn, owner_in, room_in, shown_in, table_in, words_needed}
 use Rattle.dsa_c.specs.declared.refusal.RawRefusal.{RawRefusal}
 use Rattle.dsa_c.specs.declared.settings.RawSettings.{RawSettings}
+use Rattle.dsa_c.specs.Planning.{RefusesToPlan}
 use Rattle.dsa_c.specs.Preparing.{refusal_at}
 use Rattle.dsa_c.specs.Raw.{AreSettings, RefusesSettings, limits_of, refusal_of, staged_at}
 
@@ -140,18 +140,10 @@ abbrev pub RefusesPieces : List ℕ → List Fields → Span → WordsFault → 
 RefusesPieces words pieces staging fault =
     RefusesIn words fault (λ f. IsRefused (table_in words) f (IsListFault (room_in words) (owner_with (owner_in words) pieces) pieces staging f))
 
--- why the list has no pieces: the numbers are no settings; an allocation failed; or planning refuses the bytes without
--- their fences
-abbrev pub RefusesToSplit : RawSettings → List ℕ → List ℕ → RawRefusal → Type 0
-RefusesToSplit s table list r =
-    RefusesSettings s table r
-    ⊎ ((r ≡ refusal_of Memory) × AreSettings s table)
-    ⊎ ((fault : PlanFault) × AreSettings s table × PlansFenced list (limits_of s table) (Err fault) × (r ≡ refusal_of fault))
-
--- the list has no pieces, or the tracker refuses them
+-- planning refuses the list, so it has no pieces, or the tracker refuses them
 abbrev pub RefusesList : RawSettings → List ℕ → List ℕ → List ℕ → Span → RawRefusal → Type 0
 RefusesList s table words list staging r =
-    RefusesToSplit (staged_at s staging.first) table list r
+    RefusesToPlan (staged_at s staging.first) table list r
     ⊎ ((pieces : List Descriptor) × (barriers : List Bool) × (fault : WordsFault) × ArePiecesUnder (staged_at s staging.first) table list pieces barriers
     × RefusesPieces words (map fields pieces) staging fault × (r ≡ track_refusal_of fault))
 

@@ -1,9 +1,5 @@
 -- What is worth a warning about the plan of a list, as C lays it out (this project's choice).
-use Rattle.std.specs.Prelude.{◌≡◌, ◌⊎◌, ℕ, ◌<◌, ◌≤◌, ◌==◌, Bool, List, [], length, map, Option, Some, None, Err, if◌then◌else◌}
-use Rattle.dsa_calls.specs.declared.fault.PlanFault.{PlanFault}
-use Rattle.dsa_calls.specs.declared.fault.PlanFault.TheVariants.{Memory}
-use Rattle.dsa_calls.specs.Fenced.{AreFencedPieces, PlansFenced}
-use Rattle.dsa_calls.specs.Planned.{Submission}
+use Rattle.std.specs.Prelude.{◌≡◌, ℕ, ◌==◌, Bool, List, [], map, Option, Some, None, if◌then◌else◌}
 use Rattle.dsa_descriptor.specs.declared.descriptor.Descriptor.{Descriptor}
 use Rattle.dsa_plan.specs.Plan.{Plan}
 use Rattle.dsa_warnings.specs.declared.concerns.Concern.{Concern}
@@ -14,9 +10,7 @@ use Rattle.dsa_warnings.specs.Warnings.{AreWarnings}
 use Rattle.dsa_c.specs.declared.refusal.RawRefusal.{RawRefusal}
 use Rattle.dsa_c.specs.declared.settings.RawSettings.{RawSettings}
 use Rattle.dsa_c.specs.declared.warnings.RawWarning.{RawWarning}
-use Rattle.dsa_c.specs.Planning.{IsPlannedFor}
-use Rattle.dsa_c.specs.Preparing.{refusal_at}
-use Rattle.dsa_c.specs.Raw.{limits_of, AreSettings, RefusesSettings, refusal_of, written}
+use Rattle.dsa_c.specs.Planning.{AreOfPlanInto, RefusesOfPlan}
 
 -- a warning of this kind about a piece, and another piece
 abbrev pub raw_warning : ℕ → ℕ → ℕ → RawWarning
@@ -54,31 +48,10 @@ pub record AreRawWarningsOf (pieces : List Descriptor) (barriers : List Bool) (p
   pub are : AreWarnings pieces barriers plan warnings
   pub raw_are : raw ≡ map raw_warning_of warnings
 
--- those of the plan that planning the list answers
-pub record AreWarningsFor (s : RawSettings) (table list : List ℕ) (raw : List RawWarning) : Type 0 where
-  pub submission : Submission
-  pub planned : IsPlannedFor s table list submission
-  pub barriers : List Bool
-  pub pieces : AreFencedPieces list (limits_of s table) submission.pieces barriers
-  pub are : AreRawWarningsOf submission.pieces barriers submission.plan raw
+-- those of the plan that planning the list answers are at the front of the array, and there are so many
+abbrev pub AreWarningsInto : RawSettings → List ℕ → List ℕ → List RawWarning → List RawWarning → ℕ → Type 0
+AreWarningsInto s table list array new_array count = AreOfPlanInto AreRawWarningsOf s table list array new_array count
 
--- they are at the front of the array, whose rest is unchanged, and there are so many
-pub record AreWarningsInto (s : RawSettings) (table list : List ℕ) (array new_array : List RawWarning) (count : ℕ) : Type 0 where
-  pub raw : List RawWarning
-  pub warned : AreWarningsFor s table list raw
-  pub fits : length raw ≤ length array
-  pub array_is : new_array ≡ written raw array
-  pub count_is : count ≡ length raw
-
--- the refusal of an array that is too small for the warnings: number 95, and how many there are (this project's choice)
-abbrev pub no_room_for_warnings : ℕ → RawRefusal
-no_room_for_warnings warnings = refusal_at 95 warnings 0
-
--- Why nothing is written: the numbers are no settings, and one is named; an allocation failed; planning refuses the list,
--- for this fault; or the warnings do not fit, and so many there are.
+-- why nothing is written; the refusal of an array that is too small for the warnings has number 95 (this project's choice)
 abbrev pub RefusesWarn : RawSettings → List ℕ → List ℕ → ℕ → RawRefusal → Type 0
-RefusesWarn s table list room r =
-    RefusesSettings s table r
-    ⊎ ((r ≡ refusal_of Memory) × AreSettings s table)
-    ⊎ ((fault : PlanFault) × AreSettings s table × PlansFenced list (limits_of s table) (Err fault) × (r ≡ refusal_of fault))
-    ⊎ ((raw : List RawWarning) × AreWarningsFor s table list raw × (room < length raw) × (r ≡ no_room_for_warnings (length raw)))
+RefusesWarn s table list room r = RefusesOfPlan AreRawWarningsOf 95 s table list room r

@@ -3,15 +3,17 @@
 ghost use Rattle.std.specs.Prelude.{◌≡◌, ◌≢◌, ◌<◌, ◌≤◌, IfOk, length, MatchResult};
 ghost use Rattle.dsa_descriptor.specs.Pieces.{most_pieces};
 ghost use Rattle.dsa_plan.specs.Plan.{piece_count};
-ghost use Rattle.dsa_c.specs.Explaining.{IsExplainedFor, IsExplainedInto, RefusesExplain};
+ghost use Rattle.dsa_c.specs.Explaining.{IsExplainedInto, RefusesExplain};
+ghost use Rattle.dsa_c.specs.Planning.{AreOfPlan};
 ghost use Rattle.dsa_c.specs.Reasons.{AreReasonsOf};
 
 use crate::buffer::put;
 use crate::marks::marks_of;
+use crate::planning::planned_for;
 use crate::reasons::{RawReason, raw_reasons};
 use crate::refusal::{RawRefusal, refusal, refusal_at};
-use crate::settings::{RawSettings, settings_of, settings_refusal};
-use dsa_calls::{PlanFault, Planned, plan_fenced_list};
+use crate::settings::RawSettings;
+use dsa_calls::{PlanFault, Planned};
 use dsa_reasons::cut_reasons;
 use std::alloc::{AllocError, Global};
 
@@ -39,16 +41,13 @@ fn reasons_for(
     room: usize,
 ) -> Result<Vec<RawReason>, RawRefusal>
     ensures { MatchResult result
-        (λ reasons. IsExplainedFor settings.now table.now list.now reasons.items
+        (λ reasons. AreOfPlan AreReasonsOf settings.now table.now list.now reasons.items
         × (length reasons.items ≤ room))
         (λ r. (0 < r.number) × RefusesExplain settings.now table.now list.now room r) }
 {
-    let Some(checked) = settings_of(settings, table) else {
-        return Err(settings_refusal(settings));
-    };
-    let planned = match plan_fenced_list(alloc, list, &checked) {
+    let planned = match planned_for(alloc, settings, table, list) {
         Ok(planned) => planned,
-        Err(fault) => return Err(refusal(fault)),
+        Err(cause) => return Err(cause),
     };
     let Ok(reasons) = reasons_of(alloc, &planned) else {
         return Err(refusal(PlanFault::Memory));

@@ -4,11 +4,11 @@ ghost use Rattle.std.specs.Prelude.{◌≡◌, ◌≢◌, ℕ, ◌<◌, List, le
 ghost use Rattle.dsa_calls.specs.Planned.{submission_of};
 ghost use Rattle.dsa_c.specs.declared.settings.RawSettings.{RawSettings};
 ghost use Rattle.dsa_c.specs.Raw.{AreSettings, limits_of};
-ghost use Rattle.dsa_c.specs.Planning.{IsPlannedFor, FitsIn, IsWritten, Refuses, summary_of};
+ghost use Rattle.dsa_c.specs.Planning.{IsPlannedFor, IsPlannedWith, FitsIn, IsWritten, Refuses, RefusesToPlan, summary_of};
 
 use crate::buffer::put;
 use crate::refusal::{RawRefusal, no_room, refusal};
-use crate::settings::{RawSettings, by_size, same_price, settings_refusal};
+use crate::settings::{RawSettings, by_size, same_price, settings_of, settings_refusal};
 use dsa_calls::{Planned, plan_fenced_list};
 use dsa_plan::Settings;
 use std::alloc::Global;
@@ -36,6 +36,27 @@ pub(crate) fn summary(planned: &Planned) -> RawPlanned
         pieces: planned.pieces.len() as u64,
         portal_len: planned.emission.portal.len() as u64,
         staging_len: planned.emission.staging.len() as u64,
+    }
+}
+
+/// The planned list with the barriers of its pieces, however many bytes it has.
+#[inline(always)]
+pub(crate) fn planned_for(
+    alloc: Global,
+    settings: &RawSettings,
+    table: &[u64],
+    list: &[u8],
+) -> Result<Planned, RawRefusal>
+    ensures { let s = settings.now in let t = table.now in MatchResult result
+        (λ p. IsPlannedWith s t list.now (submission_of p) p.barriers.items)
+        (λ r. (0 < r.number) × RefusesToPlan s t list.now r) }
+{
+    let Some(checked) = settings_of(settings, table) else {
+        return Err(settings_refusal(settings));
+    };
+    match plan_fenced_list(alloc, list, &checked) {
+        Ok(planned) => Ok(planned),
+        Err(fault) => Err(refusal(fault)),
     }
 }
 

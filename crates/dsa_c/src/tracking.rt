@@ -3,7 +3,8 @@
 ghost use Rattle.std.specs.Prelude.{◌≡◌, ◌≢◌, ◌<◌, Bool, List, None, MatchResult, length, map, replicate};
 ghost use Rattle.dsa_descriptor.specs.Spans.{span};
 ghost use Rattle.dsa_tracker.specs.Words.{IsTracker, table_in};
-ghost use Rattle.dsa_c.specs.Tracking.{ArePiecesUnder, CanBegin, RefusesGroups, RefusesList, RefusesSpans, RefusesToSplit, TakesGroups, TakesList, TakesSpans, begin_refusal, measure_at_fault, slots_of, submitted_of, track_refusal_of};
+ghost use Rattle.dsa_c.specs.Planning.{RefusesToPlan};
+ghost use Rattle.dsa_c.specs.Tracking.{ArePiecesUnder, CanBegin, RefusesGroups, RefusesList, RefusesSpans, TakesGroups, TakesList, TakesSpans, begin_refusal, measure_at_fault, slots_of, submitted_of, track_refusal_of};
 
 use crate::refusal::{RawRefusal, first_two, refusal, refusal_at};
 use crate::settings::{RawSettings, are_settings, settings_of, settings_refusal, staged_at};
@@ -83,7 +84,7 @@ fn split_pieces(
     ensures { let s = settings.now in let t = table.now in MatchResult result
         (λ pieces. (barriers : List Bool) ×
         ArePiecesUnder s t list.now pieces.items barriers)
-        (λ r. (0 < r.number) × RefusesToSplit s t list.now r) }
+        (λ r. (0 < r.number) × RefusesToPlan s t list.now r) }
 {
     let Some(checked) = settings_of(settings, table) else {
         return Err(settings_refusal(settings));
@@ -104,7 +105,7 @@ fn pieces_for(
     ensures { let s = settings.now in let t = table.now in MatchResult result
         (λ pieces. (barriers : List Bool) ×
         ArePiecesUnder s t list.now pieces.items barriers)
-        (λ r. (0 < r.number) × RefusesToSplit s t list.now r) }
+        (λ r. (0 < r.number) × RefusesToPlan s t list.now r) }
 {
     if !are_settings(settings, table) {
         return split_pieces(alloc, settings, table, list);

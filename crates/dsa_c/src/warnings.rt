@@ -5,14 +5,16 @@ ghost use Rattle.dsa_descriptor.specs.Descriptors.{fields};
 ghost use Rattle.dsa_descriptor.specs.Pieces.{most_pieces};
 ghost use Rattle.dsa_plan.specs.Plan.{piece_count};
 ghost use Rattle.dsa_resume.specs.Shared.{IsSpare};
+ghost use Rattle.dsa_c.specs.Planning.{AreOfPlan};
 ghost use Rattle.dsa_c.specs.Raw.{written};
-ghost use Rattle.dsa_c.specs.Warnings.{AreRawWarningsOf, AreWarningsFor, AreWarningsInto, RefusesWarn, concern_in, raw_warning_of, warning_words_of};
+ghost use Rattle.dsa_c.specs.Warnings.{AreRawWarningsOf, AreWarningsInto, RefusesWarn, concern_in, raw_warning_of, warning_words_of};
 
 use crate::buffer::put;
+use crate::planning::planned_for;
 use crate::refusal::{RawRefusal, refusal, refusal_at};
-use crate::settings::{RawSettings, settings_of, settings_refusal};
+use crate::settings::RawSettings;
 use crate::texts::put_front;
-use dsa_calls::{PlanFault, Planned, plan_fenced_list};
+use dsa_calls::{PlanFault, Planned};
 use dsa_warnings::{Concern, Warning, warning_text, warnings_of};
 use std::alloc::{AllocError, Global};
 
@@ -105,19 +107,16 @@ fn warnings_for(
     room: usize,
 ) -> Result<Vec<RawWarning>, RawRefusal>
     ensures { MatchResult result
-        (λ warnings. AreWarningsFor settings.now table.now list.now warnings.items
+        (λ warnings. AreOfPlan AreRawWarningsOf settings.now table.now list.now warnings.items
         × (length warnings.items ≤ room))
         (λ r. (0 < r.number) × RefusesWarn settings.now table.now list.now room r) }
 {
-    let Some(checked) = settings_of(settings, table) else {
-        return Err(settings_refusal(settings));
-    };
-    let planned = match plan_fenced_list(alloc, list, &checked) {
+    let planned = match planned_for(alloc, settings, table, list) {
         Ok(planned) => planned,
-        Err(fault) => return Err(refusal(fault)),
+        Err(cause) => return Err(cause),
     };
     // no piece touches the staging area, so its first byte is in no record
-    let Ok(warnings) = warnings_in(alloc, &planned, checked.staging()) else {
+    let Ok(warnings) = warnings_in(alloc, &planned, settings.staging) else {
         return Err(refusal(PlanFault::Memory));
     };
     if warnings.len() > room {

@@ -7,5 +7,5 @@ returns-in-Err-certified_of c =
     let found = c.in-Ok.ensures in
     let short = c.in-Err-certified_of.ensures in (
       short.0,
-      elim short.1 [ inl memory ↦ inl (inr (inl (memory, found.0.settings))) | inr lacks ↦ inr (submission_of c.in-Ok.planned, found.0, found.1, lacks.0, lacks.1) ],
+      elim short.1 [ inl memory ↦ inl (inl (inr (inl (memory, found.0.settings)))) | inr lacks ↦ inr (submission_of c.in-Ok.planned, found.0, found.1, lacks.0, lacks.1) ],
     )

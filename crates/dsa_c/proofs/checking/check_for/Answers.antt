@@ -1,11 +1,16 @@
-use Rattle.dsa_plan.specs.Certificate.{contents}
+use Rattle.std.proofs.Common.{Err, refl}
+use Rattle.dsa_calls.specs.declared.fault.PlanFault.TheVariants.{Memory}
+use Rattle.dsa_calls.specs.Checked.{Checks}
 use Rattle.dsa_c.specs.Certificates.{contents_of}
-use Rattle.dsa_c.proofs.Refusing.{refuses_check}
+use Rattle.dsa_c.specs.Raw.{refusal_of}
+use Rattle.dsa_c.proofs.Refusing.{refuses}
 use Rattle.dsa_c.proofs.checking.check_for.Goals as goal
 
 pub returns : goal.returns
-returns c = (
-  c.refusal-in-Err.ensures.some,
-  refuses_check c.args.settings.now c.args.table.now c.args.portal.now c.args.staging.now c.in-Some.checked (contents_of c.args.given.now.version c.args.given.now.prices.now c.args.given.now.pairs.now) (contents c.in-Ok.certificate)
-      c.in-Err.fault c.refusal-in-Err.result c.in-Some.ensures.0 c.in-Some.ensures.1 c.in-Ok.ensures c.in-Err.ensures.answer c.refusal-in-Err.ensures.value,
-)
+returns c =
+    let given = c.args.given.now in
+    let told = c.in-Err.ensures.answer in (
+      c.refusal-in-Err.ensures.some,
+      refuses refusal_of (λ l fault. Checks c.args.portal.now c.args.staging.now l (contents_of given.version given.prices.now given.pairs.now) (Err fault)) Memory
+          c.args.settings.now c.args.table.now c.in-Some.checked c.in-Err.fault c.refusal-in-Err.result refl c.in-Some.ensures.0 c.in-Some.ensures.1 (rw c.in-Ok.ensures at told) c.refusal-in-Err.ensures.value,
+    )

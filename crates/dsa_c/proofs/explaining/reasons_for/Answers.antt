@@ -1,39 +1,30 @@
 use Rattle.std.proofs.Common.{◌≡◌, ◌<◌, length, arith}
 use Rattle.std.proofs.lemmas.Grind.{common_steps}
 use Rattle.dsa_calls.specs.Planned.{submission_of}
-use Rattle.dsa_c.specs.Explaining.{IsExplainedFor}
-use Rattle.dsa_c.proofs.WhyPlanned.{explained_for, few_pieces, refuses_list, refuses_room}
+use Rattle.dsa_c.specs.Planning.{AreOfPlan}
+use Rattle.dsa_c.specs.Raw.{limits_of}
+use Rattle.dsa_c.specs.Reasons.{AreReasonsOf}
+use Rattle.dsa_c.proofs.WhyPlanned.{few_pieces, refuses_room}
 use Rattle.dsa_c.proofs.explaining.reasons_for.Goals as goal
 
 pub reasons_of-requires-clause-few : goal.reasons_of-requires-clause-few
-reasons_of-requires-clause-few c = few_pieces c.args.list.now c.in-Some.checked c.in-Ok.planned.pieces.items c.in-Ok.planned.barriers.items c.in-Ok.ensures.barriers
-
-pub returns-in-Err : goal.returns-in-Err
-returns-in-Err c =
-    let checked = c.in-Some.ensures in (
-      c.refusal.ensures.some,
-      refuses_list c.args.settings.now c.args.table.now c.args.list.now c.in-Some.checked checked.0 checked.1
-          c.args.room c.in-Err.fault c.refusal.result c.in-Err.ensures.answer c.refusal.ensures.value,
-    )
+reasons_of-requires-clause-few c =
+    let planned = c.in-Ok.planned in
+    few_pieces c.args.list.now (limits_of c.args.settings.now c.args.table.now) planned.pieces.items planned.barriers.items c.in-Ok.ensures.1
 
 pub returns-then-len-room : goal.returns-then-len-room
 returns-then-len-room c =
-    let checked = c.in-Some.ensures in
     let reasons = c.in-Ok-reasons_of.reasons.items in
-    let explained : IsExplainedFor c.args.settings.now c.args.table.now c.args.list.now reasons =
-    explained_for c.args.settings.now c.args.table.now c.args.list.now c.in-Some.checked checked.0 checked.1 (submission_of c.in-Ok.planned)
-    c.in-Ok.planned.barriers.items reasons c.in-Ok.ensures.answer c.in-Ok.ensures.least c.in-Ok.ensures.barriers c.in-Ok-reasons_of.ensures in
+    let are : AreOfPlan AreReasonsOf c.args.settings.now c.args.table.now c.args.list.now reasons =
+    record { submission = submission_of c.in-Ok.planned; barriers = c.in-Ok.planned.barriers.items; planned = c.in-Ok.ensures; are = c.in-Ok-reasons_of.ensures } in
     let count : c.len-then-len-room.result ≡ length reasons = grind (arith, common_steps, c.len-then-len-room.ensures) in
     let short : c.args.room < length reasons = grind (arith, common_steps, c.if-len-room.true, c.len.ensures) in (
       rw c.refusal_at.ensures (omega arith),
-      refuses_room c.args.settings.now c.args.table.now c.args.list.now c.args.room reasons c.refusal_at.result c.len-then-len-room.result explained short c.refusal_at.ensures count,
+      refuses_room AreReasonsOf 94 c.args.settings.now c.args.table.now c.args.list.now c.args.room reasons c.refusal_at.result c.len-then-len-room.result are short c.refusal_at.ensures count,
     )
 
 pub returns : goal.returns
-returns c =
-    let checked = c.in-Some.ensures in
-    let reasons = c.in-Ok-reasons_of.reasons.items in (
-      explained_for c.args.settings.now c.args.table.now c.args.list.now c.in-Some.checked checked.0 checked.1 (submission_of c.in-Ok.planned)
-          c.in-Ok.planned.barriers.items reasons c.in-Ok.ensures.answer c.in-Ok.ensures.least c.in-Ok.ensures.barriers c.in-Ok-reasons_of.ensures,
-      grind (arith, common_steps, c.if-len-room.false, c.len.ensures),
-    )
+returns c = (
+  record { submission = submission_of c.in-Ok.planned; barriers = c.in-Ok.planned.barriers.items; planned = c.in-Ok.ensures; are = c.in-Ok-reasons_of.ensures },
+  grind (arith, common_steps, c.if-len-room.false, c.len.ensures),
+)

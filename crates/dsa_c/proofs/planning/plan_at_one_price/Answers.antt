@@ -9,4 +9,4 @@ returns-in-Ok-same_price c =
 pub returns-in-Err : goal.returns-in-Err
 returns-in-Err c =
     let none = rw c.in-Err.is at (c.same_price-2.ensures c.args.table.now) in
-    (c.settings_refusal-in-Err.ensures.some, inl (c.settings_refusal-in-Err.ensures.names c.args.table.now none))
+    (c.settings_refusal-in-Err.ensures.some, inl (inl (c.settings_refusal-in-Err.ensures.names c.args.table.now none)))

@@ -16,7 +16,7 @@ returns-else-portal_len-portal_room c = λ s table is are.
 pub returns-in-Err : goal.returns-in-Err
 returns-in-Err c = λ s table is are. (
   c.refusal.ensures.some,
-  refuses_list s table c.args.list.now c.args.portal_room c.args.staging_room c.args.settings.now c.in-Err.fault c.refusal.result is are c.in-Err.ensures.answer c.refusal.ensures.value,
+  inl (refuses_list s table c.args.list.now c.args.settings.now c.in-Err.fault c.refusal.result is are c.in-Err.ensures.answer c.refusal.ensures.value),
 )
 
 pub returns-then-staging_len-staging_room : goal.returns-then-staging_len-staging_room

@@ -1,17 +1,22 @@
-use Rattle.std.proofs.Common.{◌≡◌, ◌<◌, ℕ, length, ◌∙◌, sym, arith}
+use Rattle.std.proofs.Common.{◌≡◌, ◌<◌, inl, Err, refl, length, arith}
 use Rattle.std.proofs.lemmas.Grind.{common_steps}
+use Rattle.dsa_calls.specs.declared.fault.PlanFault.TheVariants.{Memory}
+use Rattle.dsa_resume.specs.declared.fault.ResumeFault.TheVariants.{Plan}
 use Rattle.dsa_resume.specs.Rest.{remainder_of}
-use Rattle.dsa_c.specs.Resuming.{IsLeftOf}
-use Rattle.dsa_c.proofs.WhatIsLeft.{left_of_settings, refuses_list, refuses_room}
+use Rattle.dsa_resume.specs.Resumed.{Resumes}
+use Rattle.dsa_c.specs.Resuming.{IsLeftOf, order_of, resume_refusal_of}
+use Rattle.dsa_c.proofs.Refusing.{refuses}
+use Rattle.dsa_c.proofs.WhatIsLeft.{left_of_settings, refuses_room}
 use Rattle.dsa_c.proofs.resuming.left_for.Goals as goal
 
 pub returns-in-Err : goal.returns-in-Err
 returns-in-Err c =
     let checked = c.in-Some.ensures in
-    let l = c.args.stopped in (
+    let l = c.args.stopped in
+    let told = c.in-Err.ensures.answer in (
       c.resume_refusal.ensures.some,
-      refuses_list c.args.settings.now c.args.table.now l.list.now l.records.now l.given_up.now l.failed_first c.in-Some.checked c.order_of-order.result checked.0 checked.1 c.order_of-order.ensures
-          c.args.room c.in-Err.fault c.resume_refusal.result c.in-Err.ensures.answer c.resume_refusal.ensures.value,
+      inl (refuses resume_refusal_of (λ x fault. Resumes x l.list.now l.records.now l.given_up.now (order_of l.failed_first) (Err fault)) (Plan Memory) c.args.settings.now c.args.table.now
+          c.in-Some.checked c.in-Err.fault c.resume_refusal.result refl checked.0 checked.1 (rw c.order_of-order.ensures at told) c.resume_refusal.ensures.value),
     )
 
 pub returns-then-len-room : goal.returns-then-len-room

@@ -1,4 +1,5 @@
-use Rattle.dsa_c.proofs.Splitting.{are_pieces, refuses_to_split}
+use Rattle.dsa_c.proofs.Refusing.{refuses_list}
+use Rattle.dsa_c.proofs.Splitting.{are_pieces}
 use Rattle.dsa_c.proofs.tracking.split_pieces.Goals as goal
 
 pub returns-in-Ok : goal.returns-in-Ok
@@ -9,5 +10,5 @@ returns-in-Ok c =
 pub returns-in-Err : goal.returns-in-Err
 returns-in-Err c = (
   c.refusal.ensures.some,
-  refuses_to_split c.args.settings.now c.args.table.now c.args.list.now c.in-Some.checked c.in-Err.fault c.refusal.result c.in-Some.ensures.0 c.in-Some.ensures.1 c.in-Err.ensures.fault c.refusal.ensures.value,
+  refuses_list c.args.settings.now c.args.table.now c.args.list.now c.in-Some.checked c.in-Err.fault c.refusal.result c.in-Some.ensures.0 c.in-Some.ensures.1 c.in-Err.ensures.fault c.refusal.ensures.value,
 )

@@ -2,13 +2,14 @@ use Rattle.std.proofs.Common.{inl, inr, List, map, refl, subst}
 use Rattle.dsa_descriptor.specs.declared.descriptor.Descriptor.{Descriptor}
 use Rattle.dsa_descriptor.specs.Descriptors.{fields}
 use Rattle.dsa_c.specs.declared.settings.RawSettings.{RawSettings}
-use Rattle.dsa_c.specs.Tracking.{ArePiecesUnder, RefusesPieces, RefusesToSplit, TakesPieces}
+use Rattle.dsa_c.specs.Planning.{RefusesToPlan}
+use Rattle.dsa_c.specs.Tracking.{ArePiecesUnder, RefusesPieces, TakesPieces}
 use Rattle.dsa_c.proofs.tracking.take_list.Goals as goal
 
 pub returns-in-Err : goal.returns-in-Err
 returns-in-Err c = (
   c.in-Err.ensures.0,
-  inl (subst (λ (s : RawSettings). RefusesToSplit s c.args.table.now c.args.list.now c.in-Err.cause) c.staged_at-staged.ensures c.in-Err.ensures.1),
+  inl (subst (λ (s : RawSettings). RefusesToPlan s c.args.table.now c.args.list.now c.in-Err.cause) c.staged_at-staged.ensures c.in-Err.ensures.1),
   refl,
 )
 

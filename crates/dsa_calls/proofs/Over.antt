@@ -7,7 +7,7 @@ use Rattle.dsa_descriptor.specs.Fields.{Fields}
 use Rattle.dsa_descriptor.specs.Descriptors.{fields}
 use Rattle.dsa_descriptor.specs.Causes.{list_is_memory}
 use Rattle.dsa_descriptor.specs.Lists.{IsFirstListFault}
-use Rattle.dsa_descriptor.proofs.Entries.{one_list_spelling, sound_from_spelling, sound_or_fault, first_list_fault_is_one}
+use Rattle.dsa_descriptor.proofs.Listed.{one_list_spelling, sound_from_spelling, sound_or_fault, first_list_fault_is_one}
 use Rattle.dsa_calls.specs.declared.fault.PlanFault.{PlanFault}
 use Rattle.dsa_calls.specs.declared.fault.PlanFault.TheVariants.{List as InList, Memory}
 use Rattle.dsa_calls.specs.Fault.{list_cause}

@@ -71,7 +71,7 @@ unfenced_unset bytes none = unfenced_stays bytes (sym (list_any-of (entries byte
 -- so what a list spells it spells without its fences
 pub listed_unfenced : (bytes : List ℕ) (ds : List Descriptor) → IsListOf bytes ds → IsListOf (unfenced_list bytes) ds
 listed_unfenced bytes ds listed =
-    subst (λ (b : List ℕ). IsListOf b ds) (sym (unfenced_stays bytes (none_listed bytes ds listed.spelled))) listed
+    subst (λ (b : List ℕ). IsListOf b ds) (sym (unfenced_stays bytes (none_listed bytes ds listed.spelled listed.owner))) listed
 
 -- judging without barriers says what judging says
 no_marks_judge_alike : (plan : Plan) (s : Limits) (fs : List Fields) (outcome : Result ℕ PlanFault) → JudgesPiecesBy (WithBarriers (ConflictAt fs) []) fs plan s outcome ↔ JudgesPieces fs plan s outcome

@@ -1,11 +1,11 @@
--- The bytes of descriptors, fenced or not.
+-- Bytes with the flag 0x0001, fence, and without.
 use Rattle.std.proofs.Common.{ℕ, ◌≡◌, ◌+◌, ◌-◌, ◌*◌, ◌/◌, ◌%◌, ◌^◌, Bool, true, false, cond, eqb, List, ◌++◌, length, drop, get_or, set, refl, sym, ap, ◌∙◌, add-zero, bit_or, arith}
 use Rattle.std.specs.Int.{w32, to_le_bytes}
 use Rattle.std.proofs.lemmas.List.{get_or-set_same, get_or_at, length-set, set-get_or, set-set, set_at}
 use Rattle.std.proofs.lemmas.Nat.{or_shifted}
 use Rattle.dsa_descriptor.specs.declared.descriptor.Descriptor.{Descriptor}
 use Rattle.dsa_descriptor.specs.Descriptors.{fields}
-use Rattle.dsa_descriptor.specs.Fences.{is_fenced, unfenced, with_fence}
+use Rattle.dsa_descriptor.specs.Fences.{fenced, is_fenced, unfenced, with_fence, DescriptorsAreFencedAlike}
 use Rattle.dsa_descriptor.specs.Fields.{Fields}
 use Rattle.dsa_descriptor.specs.Profile.{IsListed}
 use Rattle.dsa_descriptor.specs.Spelling.{owner_word, operation_word, spelling}
@@ -37,57 +37,71 @@ set_word w v b owner rest long even more is =
     let fourth : w / 16777216 % 256 ≡ v / 16777216 % 256 = omega arith in
     set_at owner (w % 256) (drop 1 (to_le_bytes w32 w) ++ rest) b 4 long ∙ rw (first, second, third, fourth) refl
 
-pub fenced_spelling_set : (f : Fields) → IsListed f → set (spelling f) 4 (bit_or (get_or (spelling f) 4 0) 1) ≡ spelling (with_fence true f)
+-- fields whose flags are even
+pub even_set : (f : Fields) → f.flags % 2 ≡ 0 → set (spelling f) 4 (bit_or (get_or (spelling f) 4 0) 1) ≡ spelling (with_fence true f)
 unfolding spelling
-fenced_spelling_set f listed =
-    let even : operation_word f % 2 ≡ 0 = omega (arith, no_fence f listed) in
+even_set f flags =
+    let even : operation_word f % 2 ≡ 0 = omega (arith, flags) in
     let more : operation_word (with_fence true f) ≡ operation_word f + 1 = omega arith in
     set_word (operation_word f) (operation_word (with_fence true f)) (bit_or (get_or (spelling f) 4 0) 1) (to_le_bytes w32 (owner_word f)) (drop 8 (spelling f)) refl even more refl
 
--- the lowest bit of byte 4 is the fence
-pub fence_told : (f : Fields) (fence : Bool) → IsListed f → get_or (spelling (with_fence fence f)) 4 0 % 2 ≡ cond fence 1 0
-unfolding spelling
-fence_told f true listed = omega (arith, no_fence f listed)
-fence_told f false listed = omega (arith, no_fence f listed)
-
--- the bytes without the fence
-pub unfenced_again : (f : Fields) → IsListed f → set (spelling (with_fence true f)) 4 (get_or (spelling (with_fence true f)) 4 0 - 1) ≡ spelling f
-unfenced_again f listed =
-    let made : set (spelling f) 4 (bit_or (get_or (spelling f) 4 0) 1) ≡ spelling (with_fence true f) = fenced_spelling_set f listed in
-    let long : length (spelling f) ≡ 64 = (spelling_stands f listed).long in
-    let even : get_or (spelling f) 4 0 % 2 ≡ 0 = lowest_unset f listed in
-    let there : get_or (set (spelling f) 4 (bit_or (get_or (spelling f) 4 0) 1)) 4 0 ≡ bit_or (get_or (spelling f) 4 0) 1 = get_or-set_same (spelling f) 4 (bit_or (get_or (spelling f) 4 0) 1) 0 (omega arith) in
-    let back : bit_or (get_or (spelling f) 4 0) 1 - 1 ≡ get_or (spelling f) 4 0 = omega (arith, or_one (get_or (spelling f) 4 0) even) in
-    ap (λ (bytes : List ℕ). set bytes 4 (get_or bytes 4 0 - 1)) (sym made)
-    ∙ set-set (spelling f) 4 (bit_or (get_or (spelling f) 4 0) 1) (get_or (set (spelling f) 4 (bit_or (get_or (spelling f) 4 0) 1)) 4 0 - 1)
-    ∙ ap (λ (byte : ℕ). set (spelling f) 4 byte) (ap (λ (x : ℕ). x - 1) there ∙ back) ∙ set-get_or (spelling f) 4 0
+pub fenced_spelling_set : (f : Fields) → IsListed f → set (spelling f) 4 (bit_or (get_or (spelling f) 4 0) 1) ≡ spelling (with_fence true f)
+fenced_spelling_set f listed = even_set f (no_fence f listed)
 
 pub unfenced_same : (f : Fields) → spelling (with_fence false f) ≡ spelling f
 unfenced_same f = ap (λ (n : ℕ). spelling (record f { flags = n })) (add-zero f.flags)
 
-pub length-fenced_one : (f : Fields) (fence : Bool) → IsListed f → length (spelling (with_fence fence f)) ≡ 64
-length-fenced_one f true listed = ap length (sym (fenced_spelling_set f listed)) ∙ length-set (spelling f) 4 (bit_or (get_or (spelling f) 4 0) 1) ∙ (spelling_stands f listed).long
-length-fenced_one f false listed = ap length (unfenced_same f) ∙ (spelling_stands f listed).long
+-- ---- 64 bytes without the flag, and the same with it
+module _ (bytes : List ℕ) (long : length bytes ≡ 64) (plain : get_or bytes 4 0 % 2 ≡ 0) where
+  set_there : get_or (fenced true bytes) 4 0 ≡ get_or bytes 4 0 + 1
+  set_there = get_or-set_same bytes 4 (bit_or (get_or bytes 4 0) 1) 0 (omega (arith, long)) ∙ or_one (get_or bytes 4 0) plain
 
--- a descriptor, fenced or not, is told by its bytes
-pub one_fenced : (d e : Descriptor) (a b : Bool) → spelling (with_fence a (fields d)) ≡ spelling (with_fence b (fields e)) → (a ≡ b) × (d ≡ e)
-one_fenced d e true true same =
-    (refl, one_spelling d e (sym (unfenced_again (fields d) d.listed) ∙ ap (λ (bytes : List ℕ). set bytes 4 (get_or bytes 4 0 - 1)) same ∙ unfenced_again (fields e) e.listed))
-one_fenced d e false false same = (refl, one_spelling d e (sym (unfenced_same (fields d)) ∙ same ∙ unfenced_same (fields e)))
-one_fenced d e true false same =
-    absurd (omega (arith, fence_told (fields d) true d.listed, fence_told (fields e) false e.listed, ap (λ (bytes : List ℕ). get_or bytes 4 0 % 2) same))
-one_fenced d e false true same =
-    absurd (omega (arith, fence_told (fields d) false d.listed, fence_told (fields e) true e.listed, ap (λ (bytes : List ℕ). get_or bytes 4 0 % 2) same))
+  fence_at : (fence : Bool) → get_or (fenced fence bytes) 4 0 % 2 ≡ cond fence 1 0
+  fence_at true = omega (arith, set_there, plain)
+  fence_at false = plain
+
+  pub fenced_is : (fence : Bool) → is_fenced (fenced fence bytes) ≡ fence
+  fenced_is true = ap (λ (n : ℕ). eqb n 1) (fence_at true)
+  fenced_is false = ap (λ (n : ℕ). eqb n 1) (fence_at false)
+
+  pub unfenced_fenced : (fence : Bool) → unfenced (fenced fence bytes) ≡ bytes
+  unfenced_fenced true =
+      let back : get_or (fenced true bytes) 4 0 - get_or (fenced true bytes) 4 0 % 2 ≡ get_or bytes 4 0 = omega (arith, set_there, fence_at true) in
+      set-set bytes 4 (bit_or (get_or bytes 4 0) 1) (get_or (fenced true bytes) 4 0 - get_or (fenced true bytes) 4 0 % 2)
+      ∙ ap (λ (byte : ℕ). set bytes 4 byte) back ∙ set-get_or bytes 4 0
+  unfenced_fenced false =
+      let same : get_or bytes 4 0 - get_or bytes 4 0 % 2 ≡ get_or bytes 4 0 = omega (arith, plain) in
+      ap (λ (byte : ℕ). set bytes 4 byte) same ∙ set-get_or bytes 4 0
+
+  pub length-fenced : (fence : Bool) → length (fenced fence bytes) ≡ 64
+  length-fenced true = length-set bytes 4 (bit_or (get_or bytes 4 0) 1) ∙ long
+  length-fenced false = long
+
+-- ---- descriptors
+
+pub fenced_if_even : (f : Fields) (fence : Bool) → f.flags % 2 ≡ 0 → fenced fence (spelling f) ≡ spelling (with_fence fence f)
+fenced_if_even f true even = even_set f even
+fenced_if_even f false even = sym (unfenced_same f)
+
+fenced_fields : (f : Fields) (fence : Bool) → IsListed f → fenced fence (spelling f) ≡ spelling (with_fence fence f)
+fenced_fields f fence listed = fenced_if_even f fence (no_fence f listed)
+
+pub fenced_alike : DescriptorsAreFencedAlike
+fenced_alike d fence = fenced_fields (fields d) fence d.listed
+
+pub length-fenced_one : (f : Fields) (fence : Bool) → IsListed f → length (spelling (with_fence fence f)) ≡ 64
+length-fenced_one f fence listed = ap length (sym (fenced_fields f fence listed)) ∙ length-fenced (spelling f) (spelling_stands f listed).long (lowest_unset f listed) fence
 
 -- the fence that the bytes have
 pub fence_is : (f : Fields) (fence : Bool) → IsListed f → is_fenced (spelling (with_fence fence f)) ≡ fence
-fence_is f true listed = ap (λ (n : ℕ). eqb n 1) (fence_told f true listed)
-fence_is f false listed = ap (λ (n : ℕ). eqb n 1) (fence_told f false listed)
+fence_is f fence listed = ap is_fenced (sym (fenced_fields f fence listed)) ∙ fenced_is (spelling f) (spelling_stands f listed).long (lowest_unset f listed) fence
 
 pub without_fence : (f : Fields) (fence : Bool) → IsListed f → unfenced (spelling (with_fence fence f)) ≡ spelling f
-without_fence f true listed =
-    ap (λ (n : ℕ). set (spelling (with_fence true f)) 4 (get_or (spelling (with_fence true f)) 4 0 - n)) (fence_told f true listed) ∙ unfenced_again f listed
-without_fence f false listed =
-    let same : get_or (spelling (with_fence false f)) 4 0 - get_or (spelling (with_fence false f)) 4 0 % 2 ≡ get_or (spelling (with_fence false f)) 4 0 = omega (arith, fence_told f false listed) in
-    ap (λ (n : ℕ). set (spelling (with_fence false f)) 4 n) same
-    ∙ set-get_or (spelling (with_fence false f)) 4 0 ∙ unfenced_same f
+without_fence f fence listed = ap unfenced (sym (fenced_fields f fence listed)) ∙ unfenced_fenced (spelling f) (spelling_stands f listed).long (lowest_unset f listed) fence
+
+-- a descriptor and its fence are known by their bytes
+pub one_fenced : (d e : Descriptor) (a b : Bool) → spelling (with_fence a (fields d)) ≡ spelling (with_fence b (fields e)) → (a ≡ b) × (d ≡ e)
+one_fenced d e a b same = (
+  sym (fence_is (fields d) a d.listed) ∙ ap is_fenced same ∙ fence_is (fields e) b e.listed,
+  one_spelling d e (sym (without_fence (fields d) a d.listed) ∙ ap unfenced same ∙ without_fence (fields e) b e.listed),
+)

@@ -1,5 +1,5 @@
 -- The entries of a list as they are read: with their fences, or without.
-use Rattle.std.proofs.Common.{◌≡◌, ◌≢◌, ℕ, zero, suc, ◌+◌, ◌-◌, ◌*◌, ◌/◌, ◌%◌, ◌<◌, ◌≤◌, Bool, true, false, cond, ◌||◌, inl, inr, List, [], ◌∷◌, ◌++◌, length, take, drop, get_or, map, refl, sym, ap, ◌∙◌, subst, append_assoc, arith}
+use Rattle.std.proofs.Common.{◌≡◌, ◌≢◌, ℕ, zero, suc, ◌+◌, ◌-◌, ◌*◌, ◌/◌, ◌%◌, ◌<◌, ◌≤◌, Bool, true, false, cond, ◌&&◌, ◌||◌, inl, inr, List, [], ◌∷◌, ◌++◌, length, take, drop, get_or, map, refl, sym, ap, ◌∙◌, subst, append_assoc, arith}
 use Rattle.std.specs.List.{flat_map, list_any}
 use Rattle.std.specs.Simd.{first_chunks}
 use Rattle.std.proofs.Math.Seq.{take-suc}
@@ -8,14 +8,14 @@ use Rattle.std.proofs.lemmas.Bool.{cases_Bool, eqb-false, eqb-true}
 use Rattle.std.proofs.lemmas.List.{length-append, length-map, length-set, length-drop, length-take-le, take_at, drop_at, get_or-map, get_or-set_other, set-get_or, take_all}
 use Rattle.dsa_descriptor.specs.declared.descriptor.Descriptor.{Descriptor}
 use Rattle.dsa_descriptor.specs.Descriptors.{fields}
-use Rattle.dsa_descriptor.specs.Lists.{list_spelling, entries, entry, AgreeOnOwner, IsSoundAt, IsSound, IsFirstListFault}
+use Rattle.dsa_descriptor.specs.Lists.{entries, entry, AgreeOnOwner, AreEntries, IsSoundAt, IsSound, IsFirstFaultBy}
 use Rattle.dsa_descriptor.specs.Places.{u32_at}
 use Rattle.dsa_descriptor.specs.Fences.{is_fenced, fences_of, unfenced, unfenced_list, after_first, set_marks, seen_entry, seen_list}
 use Rattle.dsa_descriptor.specs.declared.fault.FieldFault.{FieldFault}
 use Rattle.dsa_descriptor.specs.declared.fault.ListFault.TheVariants.{Length, Field, MixedPasid}
-use Rattle.dsa_descriptor.specs.Faults.{IsFirstFault}
+use Rattle.dsa_descriptor.specs.Faults.{IsFirstBreach}
 use Rattle.dsa_descriptor.specs.Spelling.{spelling}
-use Rattle.dsa_descriptor.proofs.Entries.{length-chunks, length-list_spelling, kept_spelt, spelt_more, spelt_all}
+use Rattle.dsa_descriptor.proofs.Entries.{kept_by, length-chunks, length-entries_spelling, spelt_all, spelt_more}
 use Rattle.dsa_descriptor.specs.Fields.{Fields}
 use Rattle.dsa_descriptor.specs.Profile.{IsListed}
 use Rattle.dsa_descriptor.proofs.Masks.{no_fence}
@@ -164,64 +164,75 @@ fenced_more all i lt =
     ∙ list_any-append is_fenced (take i all) (get_or all i [] ∷ [])
     ∙ ap (λ (b : Bool). list_any is_fenced (take i all) || b) (or_false (is_fenced (get_or all i [])))
 
+-- the same, if fences may be there
+pub noted_none : (t : Bool) → false ≡ (t && false)
+noted_none true = refl
+noted_none false = refl
+
+pub noted_more : (t : Bool) (all : List (List ℕ)) (i : ℕ) (noted : Bool) → i < length all → noted ≡ (t && list_any is_fenced (take i all))
+    → (t && (noted || is_fenced (get_or all i []))) ≡ (t && list_any is_fenced (take (i + 1) all))
+noted_more true all i noted lt is = ap (λ (b : Bool). b || is_fenced (get_or all i [])) is ∙ sym (fenced_more all i lt)
+noted_more false all i noted lt is = refl
+
 -- and with all
 pub fenced_all : (bytes : List ℕ) (all : List (List ℕ)) (i : ℕ) → all ≡ entries bytes → length all ≤ i → list_any is_fenced (take i all) ≡ list_any is_fenced (entries bytes)
 fenced_all bytes all i front end = ap (list_any is_fenced) (take_all i all end ∙ front)
 
--- ---- one entry more, where all are the entries of the bytes
+-- ---- one entry more, if all are the entries of the bytes
+module _ (E : Type 0) (spell : E → List ℕ) (keeps : List ℕ → FieldFault → Type 0) (are : AreEntries spell keeps) (t : Bool) (bytes : List ℕ) where
+  pub seen_length : length bytes % 64 ≢ 0 → IsFirstFaultBy keeps (seen_list t bytes) Length
+  seen_length other e = other (omega (arith, e, length-seen_list t bytes))
 
-pub seen_length : (t : Bool) (bytes : List ℕ) → length bytes % 64 ≢ 0 → IsFirstListFault (seen_list t bytes) Length
-seen_length t bytes other e = other (omega (arith, e, length-seen_list t bytes))
+  module _ (all : List (List ℕ)) (front : all ≡ entries bytes) (i : ℕ) (lt : i < length all) where
+    count : length all ≡ length bytes / 64
+    count = ap length front ∙ length-chunks (length bytes / 64) bytes
 
-module _ (t : Bool) (bytes : List ℕ) (all : List (List ℕ)) (front : all ≡ entries bytes) (i : ℕ) (lt : i < length all) where
-  count : length all ≡ length bytes / 64
-  count = ap length front ∙ length-chunks (length bytes / 64) bytes
+    at : (j : ℕ) → j < length all → entry (seen_list t bytes) j ≡ seen_entry t (get_or all j [])
+    at j less = entry_seen t bytes j (omega (arith, less, count)) ∙ ap (λ (es : List (List ℕ)). seen_entry t (get_or es j [])) (sym front)
 
-  at : (j : ℕ) → j < length all → entry (seen_list t bytes) j ≡ seen_entry t (get_or all j [])
-  at j less = entry_seen t bytes j (omega (arith, less, count)) ∙ ap (λ (es : List (List ℕ)). seen_entry t (get_or es j [])) (sym front)
+    inside : i < length (seen_list t bytes) / 64
+    inside = omega (arith, lt, count, length-seen_list t bytes)
 
-  inside : i < length (seen_list t bytes) / 64
-  inside = omega (arith, lt, count, length-seen_list t bytes)
+    pub seen_field : (fault : FieldFault) → length bytes % 64 ≡ 0 → ((j : ℕ) → j < i → IsSoundAt keeps (seen_list t bytes) j) → IsFirstBreach keeps (seen_entry t (get_or all i [])) fault → IsFirstFaultBy keeps (seen_list t bytes) (Field i fault)
+    seen_field fault whole before first = (
+      record { whole = omega (arith, whole, length-seen_list t bytes); inside = inside; before = before },
+      subst (λ (e : List ℕ). IsFirstBreach keeps e fault) (sym (at i lt)) first,
+    )
 
-  pub seen_field : (fault : FieldFault) → length bytes % 64 ≡ 0 → ((j : ℕ) → j < i → IsSoundAt (seen_list t bytes) j) → IsFirstFault (seen_entry t (get_or all i [])) fault → IsFirstListFault (seen_list t bytes) (Field i fault)
-  seen_field fault whole before first = (
-    record { whole = omega (arith, whole, length-seen_list t bytes); inside = inside; before = before },
-    subst (λ (e : List ℕ). IsFirstFault e fault) (sym (at i lt)) first,
-  )
+    module _ (e : E) (here : seen_entry t (get_or all i []) ≡ spell e) where
+      pub seen_sound : AgreeOnOwner (get_or all 0 []) (get_or all i []) → IsSoundAt keeps (seen_list t bytes) i
+      seen_sound agree =
+          let first = at 0 (omega (arith, lt)) in
+          record {
+            kept = kept_by E spell keeps are (entry (seen_list t bytes) i) e (at i lt ∙ here);
+            owner = rw (first, at i lt) (owner_seen t (get_or all 0 []) (get_or all i []) agree);
+          }
 
-  module _ (d : Descriptor) (here : seen_entry t (get_or all i []) ≡ spelling (fields d)) where
-    pub seen_sound : AgreeOnOwner (get_or all 0 []) (get_or all i []) → IsSoundAt (seen_list t bytes) i
-    seen_sound agree =
-        let first = at 0 (omega (arith, lt)) in
-        record {
-          kept = kept_spelt (entry (seen_list t bytes) i) d (at i lt ∙ here);
-          owner = rw (first, at i lt) (owner_seen t (get_or all 0 []) (get_or all i []) agree);
-        }
+      pub seen_mixed : length bytes % 64 ≡ 0 → ((j : ℕ) → j < i → IsSoundAt keeps (seen_list t bytes) j) → ¬ AgreeOnOwner (get_or all 0 []) (get_or all i []) → IsFirstFaultBy keeps (seen_list t bytes) (MixedPasid i)
+      seen_mixed whole before differ =
+          let first = at 0 (omega (arith, lt)) in (
+            record { whole = omega (arith, whole, length-seen_list t bytes); inside = inside; before = before },
+            kept_by E spell keeps are (entry (seen_list t bytes) i) e (at i lt ∙ here),
+            λ agree. differ (owner_back t (get_or all 0 []) (get_or all i []) (rw (first, at i lt) at agree)),
+          )
 
-    pub seen_mixed : length bytes % 64 ≡ 0 → ((j : ℕ) → j < i → IsSoundAt (seen_list t bytes) j) → ¬ AgreeOnOwner (get_or all 0 []) (get_or all i []) → IsFirstListFault (seen_list t bytes) (MixedPasid i)
-    seen_mixed whole before differ =
-        let first = at 0 (omega (arith, lt)) in (
-          record { whole = omega (arith, whole, length-seen_list t bytes); inside = inside; before = before },
-          kept_spelt (entry (seen_list t bytes) i) d (at i lt ∙ here),
-          λ agree. differ (owner_back t (get_or all 0 []) (get_or all i []) (rw (first, at i lt) at agree)),
-        )
+      pub seen_spelt : (es : List E) → flat_map spell es ≡ take (64 * i) (seen_list t bytes) → flat_map spell (es ++ e ∷ []) ≡ take (64 * (i + 1)) (seen_list t bytes)
+      seen_spelt es so_far = spelt_more E spell keeps are (seen_list t bytes) (length (seen_list t bytes) / 64) es i e inside so_far (at i lt ∙ here)
 
-    pub seen_spelt : (ds : List Descriptor) → list_spelling (map fields ds) ≡ take (64 * i) (seen_list t bytes) → list_spelling (map fields (ds ++ d ∷ [])) ≡ take (64 * (i + 1)) (seen_list t bytes)
-    seen_spelt ds so_far = spelt_more (seen_list t bytes) (length (seen_list t bytes) / 64) ds i d inside so_far (at i lt ∙ here)
+  -- ---- the whole list
 
--- the whole list
-pub seen_all : (t : Bool) (bytes : List ℕ) (n i : ℕ) (ds : List Descriptor) → length bytes % 64 ≡ 0 → n ≡ length bytes / 64 → n ≤ i → list_spelling (map fields ds) ≡ take (64 * i) (seen_list t bytes) → seen_list t bytes ≡ list_spelling (map fields ds)
-seen_all t bytes n i ds whole count end so_far =
-    spelt_all (seen_list t bytes) ds i (omega (arith, whole, length-seen_list t bytes)) (omega (arith, end, count, length-seen_list t bytes)) so_far
+  pub seen_all : (n i : ℕ) (es : List E) → length bytes % 64 ≡ 0 → n ≡ length bytes / 64 → n ≤ i → flat_map spell es ≡ take (64 * i) (seen_list t bytes) → seen_list t bytes ≡ flat_map spell es
+  seen_all n i es whole count end so_far =
+      spelt_all E spell keeps are (seen_list t bytes) es i (omega (arith, whole, length-seen_list t bytes)) (omega (arith, end, count, length-seen_list t bytes)) so_far
 
-pub seen_sound_all : (t : Bool) (bytes : List ℕ) (n i : ℕ) → length bytes % 64 ≡ 0 → n ≡ length bytes / 64 → n ≤ i → ((j : ℕ) → j < i → IsSoundAt (seen_list t bytes) j) → IsSound (seen_list t bytes)
-seen_sound_all t bytes n i whole count end sound = record {
-  whole = omega (arith, whole, length-seen_list t bytes);
-  sound = λ j lt. sound j (omega (arith, lt, end, count, length-seen_list t bytes));
-}
+  pub seen_sound_all : (n i : ℕ) → length bytes % 64 ≡ 0 → n ≡ length bytes / 64 → n ≤ i → ((j : ℕ) → j < i → IsSoundAt keeps (seen_list t bytes) j) → IsSound keeps (seen_list t bytes)
+  seen_sound_all n i whole count end sound = record {
+    whole = omega (arith, whole, length-seen_list t bytes);
+    sound = λ j lt. sound j (omega (arith, lt, end, count, length-seen_list t bytes));
+  }
 
--- there is a flag for each descriptor
-pub fences_count : (bytes : List ℕ) (ds : List Descriptor) → unfenced_list bytes ≡ list_spelling (map fields ds) → length (fences_of bytes) ≡ length ds
-fences_count bytes ds read =
-    let long : length bytes ≡ 64 * length ds = sym (length-unfenced_list bytes) ∙ ap length read ∙ length-list_spelling ds in
-    length-map (entries bytes) is_fenced ∙ length-chunks (length bytes / 64) bytes ∙ omega (arith, long)
+  -- there is a flag for each entry
+  pub fences_count : (es : List E) → unfenced_list bytes ≡ flat_map spell es → length (fences_of bytes) ≡ length es
+  fences_count es read =
+      let long : length bytes ≡ 64 * length es = sym (length-unfenced_list bytes) ∙ ap length read ∙ length-entries_spelling E spell keeps are es in
+      length-map (entries bytes) is_fenced ∙ length-chunks (length bytes / 64) bytes ∙ omega (arith, long)

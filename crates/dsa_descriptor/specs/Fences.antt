@@ -1,5 +1,5 @@
 -- The flag 0x0001, fence, of the entries of a list: an entry may be read without it, and it is a barrier before the operation.
-use Rattle.std.specs.Prelude.{◌≡◌, ◌⊎◌, ℕ, ◌+◌, ◌*◌, ◌/◌, ◌-◌, ◌%◌, ◌==◌, Bool, false, List, [], ◌∷◌, ◌++◌, drop, length, map, slice_index, slice_index_or, slice_set, if◌then◌else◌}
+use Rattle.std.specs.Prelude.{◌≡◌, ◌⊎◌, ℕ, ◌+◌, ◌*◌, ◌/◌, ◌-◌, ◌%◌, ◌==◌, Bool, false, List, [], ◌∷◌, ◌++◌, bit_or, drop, length, map, slice_index, slice_index_or, slice_set, if◌then◌else◌}
 use Rattle.std.specs.List.{flat_map, list_any}
 use Rattle.dsa_descriptor.specs.declared.descriptor.Descriptor.{Descriptor}
 use Rattle.dsa_descriptor.specs.Descriptors.{fields}
@@ -37,6 +37,23 @@ set_marks marks = if list_any (λ mark. mark) marks then marks else []
 abbrev pub barriers_of : List ℕ → List Bool
 barriers_of bytes = set_marks (after_first (fences_of bytes))
 
+-- the bytes with that flag set if asked for
+abbrev pub fenced : Bool → List ℕ → List ℕ
+fenced fence bytes = if fence then slice_set bytes 4 (bit_or (slice_index bytes 4) 0x0001) else bytes
+
+-- the bytes of entries with barriers, by the bytes that spell each: the flag of each entry after a barrier is set (this
+-- project's choice)
+unfoldable pub fenced_entries : {E : Type 0} → (E → List ℕ) → List E → List Bool → List ℕ
+fenced_entries spelling [] marks = []
+fenced_entries spelling (e ∷ es) marks = fenced (slice_index_or marks 0 false) (spelling e) ++ fenced_entries spelling es (drop 1 marks)
+
+-- these bytes are read back: without their fences they spell the entries, and the barriers are those that were marked
+abbrev pub EntriesReadBack : {E : Type 0} → (E → List ℕ) → Type 0
+EntriesReadBack {E} spelling =
+    (es : List E) (marks : List Bool) → (marks ≡ []) ⊎ (length marks ≡ length es) →
+    (unfenced_list (fenced_entries spelling es marks) ≡ flat_map spelling es)
+    × (barriers_of (fenced_entries spelling es marks) ≡ set_marks (after_first marks))
+
 -- the flag 0x0001, fence, is added if asked for; no listed descriptor has it
 abbrev pub with_fence : Bool → Fields → Fields
 with_fence fence f = record f { flags = f.flags + (if fence then 0x0001 else 0) }
@@ -52,6 +69,11 @@ MarkedListReadsBack =
     (ds : List Descriptor) (marks : List Bool) → (marks ≡ []) ⊎ (length marks ≡ length ds) →
     (unfenced_list (marked_spelling (map fields ds) marks) ≡ list_spelling (map fields ds))
     × (barriers_of (marked_spelling (map fields ds) marks) ≡ set_marks (after_first marks))
+
+-- the bytes of a descriptor with the flag set are those of the descriptor with a fence
+abbrev pub DescriptorsAreFencedAlike : Type 0
+DescriptorsAreFencedAlike =
+    (d : Descriptor) (fence : Bool) → fenced fence (spelling (fields d)) ≡ spelling (with_fence fence (fields d))
 
 -- ---- for private clauses
 

@@ -3,11 +3,12 @@
 ghost use Rattle.std.specs.Prelude.{◌≡◌, IfOk, false, map, slice_index_or};
 ghost use Rattle.std.specs.List.{list_any};
 ghost use Rattle.dsa_descriptor.specs.Descriptors.{fields};
-ghost use Rattle.dsa_descriptor.specs.Fences.{after_first, barriers_of, is_fenced, set_marks, unfenced, with_fence};
+ghost use Rattle.dsa_descriptor.specs.Fences.{after_first, barriers_of, fenced, is_fenced, set_marks, unfenced, with_fence};
 ghost use Rattle.dsa_descriptor.specs.Lists.{entries};
 ghost use Rattle.dsa_descriptor.specs.Spelling.{spelling};
 
 use crate::descriptor::Descriptor;
+use crate::entry::Entry;
 use std::alloc::{AllocError, Global};
 
 /// Whether the entry has the flag 0x0001, fence.
@@ -26,15 +27,23 @@ pub fn unfenced(bytes: &[u8; 64]) -> [u8; 64]
     plain
 }
 
-/// The bytes of a descriptor, with that flag or without.
-pub fn write_fenced(descriptor: &Descriptor, fence: bool) -> [u8; 64]
-    ensures { result ≡ spelling (with_fence fence (fields descriptor.now)) }
+/// The bytes of an entry, with that flag or without.
+#[inline(always)]
+pub fn write_fenced_entry<E: Entry>(entry: &E, fence: bool) -> [u8; 64]
+    ensures { result ≡ fenced fence (E.spelling entry.now) }
 {
-    let mut bytes = descriptor.write();
+    let mut bytes = entry.write_entry();
     if fence {
         bytes[4] |= 1;
     }
     bytes
+}
+
+/// The bytes of a descriptor, with that flag or without.
+pub fn write_fenced(descriptor: &Descriptor, fence: bool) -> [u8; 64]
+    ensures { result ≡ spelling (with_fence fence (fields descriptor.now)) }
+{
+    write_fenced_entry(descriptor, fence)
 }
 
 /// The flag of each entry.
@@ -48,7 +57,7 @@ fn fences_of(alloc: Global, all: &[[u8; 64]]) -> Result<Vec<bool>, AllocError>
     Ok(fences)
 }
 
-/// The mark of a descriptor; one without a mark is after no barrier.
+/// The mark of an entry; one without a mark is after no barrier.
 pub fn mark_at(marks: &[bool], index: usize) -> bool
     ensures { result ≡ slice_index_or marks.now index false }
 {

@@ -1,13 +1,18 @@
--- What the reader's answers say of all that it might have answered.
-use Rattle.std.proofs.Common.{◌≡◌, ℕ, ◌*◌, ◌/◌, ◌^◌, ◌<◌, List, Some, None, false, eqb, refl, sym, ap, subst, ◌∙◌, arith, ⊎_elim}
-use Rattle.std.specs.Prelude.{◌==◌, ◌↔◌, if◌then◌else◌, Result, Ok, Err, IfOk, IfErr}
-use Rattle.std.proofs.lemmas.Bool.{cases_order, ne_eqb}
+-- What the reader's answers say of all that it might have answered, and that operations are entries of a list.
+use Rattle.std.proofs.Common.{◌≡◌, ℕ, ◌*◌, ◌/◌, ◌%◌, ◌^◌, ◌<◌, List, Some, None, false, eqb, get_or, length, refl, ap, arith}
+use Rattle.std.specs.Prelude.{Option}
+use Rattle.std.specs.Int.{bit_at}
+use Rattle.std.proofs.lemmas.Bool.{ne_eqb}
+use Rattle.std.proofs.lemmas.Nat.Bits.{bit_at_and, bit_at_lowest, bit_at-zero}
 use Rattle.dsa_descriptor.specs.declared.fault.FieldFault.{FieldFault}
-use Rattle.dsa_descriptor.specs.declared.fault.FieldFault.TheVariants.{Opcode, FlagBits, Reserved, SizeZero, Wrap, RecordAlign, DualcastBits, Overlap, Delta, Expected, RecordMeetsData}
+use Rattle.dsa_descriptor.specs.declared.fault.FieldFault.TheVariants.{FlagBits}
 use Rattle.dsa_descriptor.specs.Descriptors.{fields}
-use Rattle.dsa_descriptor.specs.Faults.{number, IsFirstFault}
-use Rattle.dsa_descriptor.specs.Places.{u32_at}
+use Rattle.dsa_descriptor.specs.Faults.{IsFirstFault}
+use Rattle.dsa_descriptor.specs.Lists.{AreEntries}
+use Rattle.dsa_descriptor.specs.Places.{flags_at, u32_at}
 use Rattle.dsa_descriptor.specs.Spelling.{spelling}
+use Rattle.dsa_descriptor.proofs.Listed.{length-spelling, lowest_of}
+use Rattle.dsa_descriptor.proofs.Listed as descriptors
 use Rattle.dsa_descriptor.proofs.Rules.{spelling_keeps}
 use Rattle.dsa_operations.specs.declared.checksum_op.ChecksumOp.{ChecksumOp}
 use Rattle.dsa_operations.specs.declared.operation.Operation.{Operation}
@@ -16,6 +21,7 @@ use Rattle.dsa_operations.specs.Checksums.{checksum_fields}
 use Rattle.dsa_operations.specs.Faults.{IsFirstBroken, IsFirstOperationFault, OperationKeeps}
 use Rattle.dsa_operations.specs.Operations.{spelling_of}
 use Rattle.dsa_operations.specs.Places.{checksum_at}
+use Rattle.dsa_operations.specs.Profile.{refused_flags, AreListedFlags}
 use Rattle.dsa_operations.specs.Spelling.{checksum_spelling}
 use Rattle.dsa_operations.proofs.Kept.{rules}
 use Rattle.dsa_operations.proofs.Same.{low_word, one_spelling}
@@ -57,55 +63,27 @@ spelling_is_kept (operation.Checksum c) f =
     rw (op_there (checksum_fields c) (checksum_spelling (checksum_fields c)) c.listed s)
     (rules (checksum_fields c) c.listed (checksum_spelling (checksum_fields c)) s f)
 
--- bytes with a first fault are no spelling
-fault_only : (bytes : List ℕ) (f : FieldFault) (o : Operation) → IsFirstOperationFault bytes f → bytes ≡ spelling_of o → ⊥
-fault_only bytes f o first e = first.stands (subst (λ (b : List ℕ). OperationKeeps b f) (sym e) (spelling_is_kept o f))
+-- ---- operations are entries
 
--- ---- one fault is the first
+length-spelling_of : (o : Operation) → length (spelling_of o) ≡ 64
+length-spelling_of (operation.Descriptor d) = length-spelling d
+length-spelling_of (operation.Checksum c) = (stands (checksum_fields c) c.listed).long
 
--- the fault of a number
-abbrev fault_of : ℕ → FieldFault
-fault_of n =
-    if n == 2 then Opcode else
-    if n == 3 then FlagBits else
-    if n == 4 then Reserved else
-    if n == 5 then SizeZero else
-    if n == 6 then Wrap else
-    if n == 7 then RecordAlign else
-    if n == 8 then DualcastBits else
-    if n == 9 then Overlap else
-    if n == 10 then Delta else
-    if n == 11 then Expected else
-    RecordMeetsData
+no_fence : (flags : ℕ) → AreListedFlags flags → flags % 2 ≡ 0
+no_fence flags listed = omega (arith, bit_at_and flags refused_flags 0, ap (λ (n : ℕ). bit_at n 0) listed.refused, bit_at_lowest flags, bit_at-zero 0)
 
-fault_of-number : (f : FieldFault) → fault_of (number f) ≡ f
-fault_of-number Opcode = refl
-fault_of-number FlagBits = refl
-fault_of-number Reserved = refl
-fault_of-number SizeZero = refl
-fault_of-number Wrap = refl
-fault_of-number RecordAlign = refl
-fault_of-number DualcastBits = refl
-fault_of-number Overlap = refl
-fault_of-number Delta = refl
-fault_of-number Expected = refl
-fault_of-number RecordMeetsData = refl
+-- bytes that keep each rule have no fence
+no_fence_kept : (bytes : List ℕ) (found : Option ChecksumOp) → checksum_at bytes ≡ found → ((fault : FieldFault) → OperationKeeps bytes fault) → get_or bytes 4 0 % 2 ≡ 0
+unfolding OperationKeeps
+no_fence_kept bytes None is kept = descriptors.are_entries.plain bytes (λ fault. rw is at (kept fault))
+no_fence_kept bytes (Some op) is kept =
+    let rule : AreListedFlags (flags_at bytes) = rw is at (kept FlagBits) in
+    omega (arith, lowest_of bytes, no_fence (flags_at bytes) rule)
 
-pub first_is_one : (bytes : List ℕ) (f g : FieldFault) → IsFirstOperationFault bytes f → IsFirstOperationFault bytes g → f ≡ g
-first_is_one bytes f g p q =
-    ⊎_elim (λ (e : number f ≡ number g). sym (fault_of-number f) ∙ ap fault_of e ∙ fault_of-number g)
-    (⊎_elim (λ (lt : number f < number g). absurd (p.stands (q.first f lt))) (λ (gt : number g < number f). absurd (q.stands (p.first g gt))))
-    (cases_order (number f) (number g))
-
--- ---- the two answers
-
-abbrev Answers : List ℕ → Result Operation FieldFault → Type 0
-Answers bytes r = IfOk r (λ o. bytes ≡ spelling_of o) × IfErr r (IsFirstOperationFault bytes)
-
-pub only_this : (bytes : List ℕ) (r : Result Operation FieldFault) → Answers bytes r → (o : Operation) → bytes ≡ spelling_of o → r ≡ Ok o
-only_this bytes (Ok o) h p e = ap Ok (one_spelling o p (sym h.0 ∙ e))
-only_this bytes (Err f) h o e = absurd (fault_only bytes f o h.1 e)
-
-pub this_fault : (bytes : List ℕ) (r : Result Operation FieldFault) → Answers bytes r → (f : FieldFault) → (r ≡ Err f) ↔ IsFirstOperationFault bytes f
-this_fault bytes (Ok o) h f = ((λ e. absurd cc), λ first. absurd (fault_only bytes f o first h.0))
-this_fault bytes (Err g) h f = ((λ e. let same : g ≡ f = cc in subst (IsFirstOperationFault bytes) same h.1), λ first. ap Err (first_is_one bytes g f h.1 first))
+pub are_operations : AreEntries spelling_of OperationKeeps
+are_operations = record {
+  whole = length-spelling_of;
+  kept = spelling_is_kept;
+  one = one_spelling;
+  plain = λ bytes kept. no_fence_kept bytes (checksum_at bytes) refl kept;
+}

@@ -4,7 +4,7 @@ use Rattle.std.specs.List.{AllByRecursion}
 use Rattle.dsa_descriptor.specs.declared.fault.FieldFault.{FieldFault}
 use Rattle.dsa_descriptor.specs.declared.fault.FieldFault.TheVariants.{Opcode, FlagBits, Reserved, SizeZero, Wrap, RecordAlign, DualcastBits, Overlap, Delta, Expected, RecordMeetsData}
 use Rattle.dsa_descriptor.specs.Data.{record_span}
-use Rattle.dsa_descriptor.specs.Faults.{number, Keeps}
+use Rattle.dsa_descriptor.specs.Faults.{number, IsFirstBreach, Keeps}
 use Rattle.dsa_descriptor.specs.Places.{u16_at, u32_at, u64_at, reserved_bits_at, flags_at}
 use Rattle.dsa_descriptor.specs.Spans.{ApartFrom, IsAddressable}
 use Rattle.dsa_operations.specs.declared.checksum_op.ChecksumOp.{ChecksumOp}
@@ -45,13 +45,11 @@ unfoldable pub OperationKeeps : List ℕ → FieldFault → Type 0
 OperationKeeps bytes fault = MatchOption (checksum_at bytes) (Keeps bytes fault) (λ op. Rule bytes op fault)
 
 -- the bytes have the fault, and none of a lower number
-pub record IsFirstOperationFault (bytes : List ℕ) (fault : FieldFault) : Type 0 where
-  pub stands : ¬ OperationKeeps bytes fault
-  pub first : (other : FieldFault) → number other < number fault → OperationKeeps bytes other
+abbrev pub IsFirstOperationFault : List ℕ → FieldFault → Type 0
+IsFirstOperationFault bytes fault = IsFirstBreach OperationKeeps bytes fault
 
 -- ---- for private clauses
 
 -- the same for bytes that name this checksum
-pub record IsFirstBroken (bytes : List ℕ) (op : ChecksumOp) (fault : FieldFault) : Type 0 where
-  pub stands : ¬ Rule bytes op fault
-  pub first : (other : FieldFault) → number other < number fault → Rule bytes op other
+abbrev pub IsFirstBroken : List ℕ → ChecksumOp → FieldFault → Type 0
+IsFirstBroken bytes op fault = IsFirstBreach (λ bytes fault. Rule bytes op fault) bytes fault

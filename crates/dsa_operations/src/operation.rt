@@ -5,7 +5,7 @@ ghost use Rattle.dsa_descriptor.specs.declared.fault.FieldFault.{FieldFault};
 
 use crate::checksum::Checksum;
 use crate::reading::{checksum_at, first_fault};
-use dsa_descriptor::{Descriptor, FieldFault};
+use dsa_descriptor::{Descriptor, Entry, EntryList, FieldFault};
 use dsa_ranges::{Touched, touched};
 
 /// An operation that a list may have, with its completion record and its owner.
@@ -17,10 +17,15 @@ pub enum Operation {
     Checksum(Checksum),
 }
 
+/// Operations of one owner, with their barriers. [`dsa_descriptor::read_entries`] reads it, and
+/// [`dsa_descriptor::write_entries`] writes it.
+pub type OperationList = EntryList<Operation>;
+
 impl Operation {
     ghost use Rattle.dsa_operations.specs.declared.operation.Operation.{Operation};
     ghost use Rattle.dsa_operations.specs.Faults.{IsFirstOperationFault};
     ghost use Rattle.dsa_operations.specs.Operations.{reads_of, spelling_of, writes_of};
+    ghost use Rattle.dsa_operations.specs.Submissions.{size_of};
 
     /// The operation that the 64 bytes spell.
     ///
@@ -57,6 +62,16 @@ impl Operation {
         }
     }
 
+    /// The transfer size of the operation.
+    pub fn size(&self) -> u32
+        ensures { result ≡ size_of self.now }
+    {
+        match self {
+            Operation::Descriptor(descriptor) => descriptor.size,
+            Operation::Checksum(checksum) => checksum.size,
+        }
+    }
+
     /// What the operation reads and writes, its completion record included.
     pub fn touched(&self) -> Touched
         ensures reads { result.reads.items ≡ reads_of self.now }
@@ -66,5 +81,26 @@ impl Operation {
             Operation::Descriptor(descriptor) => touched(descriptor),
             Operation::Checksum(checksum) => checksum.touched(),
         }
+    }
+}
+
+impl Entry for Operation {
+    ghost use Rattle.dsa_operations.specs.Faults.{OperationKeeps};
+    ghost use Rattle.dsa_operations.specs.Operations.{spelling_of};
+
+    ghost spelling = { spelling_of };
+
+    ghost keeps = { OperationKeeps };
+
+    fn are_entries() {}
+
+    #[inline(always)]
+    fn read_entry(bytes: &[u8; 64]) -> Result<Self, FieldFault> {
+        Operation::read(bytes)
+    }
+
+    #[inline(always)]
+    fn write_entry(&self) -> [u8; 64] {
+        self.write()
     }
 }

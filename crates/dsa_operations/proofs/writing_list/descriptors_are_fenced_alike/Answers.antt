@@ -1,5 +1,0 @@
-use Rattle.dsa_operations.proofs.Fenced.{fenced_alike}
-use Rattle.dsa_operations.proofs.writing_list.descriptors_are_fenced_alike.Goals as goal
-
-pub returns : goal.returns
-returns c = fenced_alike

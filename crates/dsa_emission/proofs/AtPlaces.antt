@@ -13,12 +13,12 @@ use Rattle.dsa_descriptor.specs.Spelling.{spelling}
 use Rattle.dsa_descriptor.proofs.Entries.{chunk}
 use Rattle.dsa_settings.specs.Plan.{Group, Plan, start_of}
 use Rattle.dsa_settings.specs.Settings.{Limits}
-use Rattle.dsa_descriptor.specs.Fences.{with_fence}
+use Rattle.dsa_descriptor.specs.Fences.{fenced, with_fence}
 use Rattle.dsa_emission.specs.Emission.{batched, batch_count, batched_count, place_of, portal_entry, fenced_spelling, staged, joined, portal_bytes, staging_bytes, CanBeEmitted}
 use Rattle.dsa_emission.specs.EmissionLaws.{StandsAtPlaces}
 use Rattle.dsa_emission.proofs.Places.{batch_yes, lone_staged}
-use Rattle.dsa_descriptor.proofs.Fenced.{length-fenced_one}
-use Rattle.dsa_emission.proofs.Told.{Fits, fits_at, group_at, entry_at, staged_at, length-joined, length-entry, is_group_at, length-staged, length-fenced, staged_batch}
+use Rattle.dsa_descriptor.proofs.Fenced.{fenced_alike}
+use Rattle.dsa_emission.proofs.Told.{Fits, fits_at, group_at, entry_at, staged_at, length-joined, length-entry, is_group_at, length-staged, length-fenced, length-fenced_piece, staged_batch}
 
 -- ---- parts one after another
 
@@ -55,11 +55,12 @@ pub fenced_at : (g : Group) (es : List Descriptor) (k : ℕ) (fence : Bool) (e :
 fenced_at [] es k fence e within p q = absurd (omega (arith, slice_get_within [] k fence p))
 fenced_at (x ∷ g) [] k fence e within p q = absurd (omega arith)
 fenced_at (x ∷ g) (d ∷ es) zero fence e within p q =
-    take_at (spelling (with_fence x (fields d))) (fenced_spelling g (map fields es)) 64 (length-fenced_one (fields d) x d.listed)
+    take_at (fenced x (spelling (fields d))) (fenced_spelling g (map fields es)) 64 (length-fenced_piece d x)
+    ∙ fenced_alike d x
     ∙ (λ i. spelling (with_fence (same_Some x fence p i) (fields (same_Some d e q i))))
 fenced_at (x ∷ g) (d ∷ es) (suc k) fence e within p q =
     let step : 64 * suc k ≡ 64 + 64 * k = omega arith in
-    let skipped : drop 64 (fenced_spelling (x ∷ g) (map fields (d ∷ es))) ≡ fenced_spelling g (map fields es) = drop_at (spelling (with_fence x (fields d))) (fenced_spelling g (map fields es)) 64 (length-fenced_one (fields d) x d.listed) in
+    let skipped : drop 64 (fenced_spelling (x ∷ g) (map fields (d ∷ es))) ≡ fenced_spelling g (map fields es) = drop_at (fenced x (spelling (fields d))) (fenced_spelling g (map fields es)) 64 (length-fenced_piece d x) in
     ap (λ (n : ℕ). take 64 (drop n (fenced_spelling (x ∷ g) (map fields (d ∷ es))))) step
     ∙ ap (take 64) (sym (drop-drop (64 * k) 64 (fenced_spelling (x ∷ g) (map fields (d ∷ es)))))
     ∙ ap (λ (bytes : List ℕ). take 64 (drop (64 * k) bytes)) skipped ∙ fenced_at g es k fence e (omega arith) p q
@@ -76,7 +77,7 @@ from_fenced (x ∷ g) (d ∷ es) bytes within each =
     (λ k fence e p q.
     let step : 64 + 64 * k ≡ 64 * suc k = omega arith in
     ap (take 64) (drop-drop (64 * k) 64 bytes ∙ ap (λ (n : ℕ). drop n bytes) step) ∙ each (suc k) fence e p q) in
-    ap (λ (n : ℕ). take n bytes) size ∙ take-add 64 (64 * length g) bytes ∙ (λ i. each 0 x d refl refl i ++ later i)
+    ap (λ (n : ℕ). take n bytes) size ∙ take-add 64 (64 * length g) bytes ∙ (λ i. (each 0 x d refl refl ∙ sym (fenced_alike d x)) i ++ later i)
 
 -- ---- the staging area
 

@@ -37,7 +37,7 @@ mixed : (demands : Demands) (bytes : List ℕ) (d e : Descriptor) → Spells byt
 mixed demands bytes d e p other q owned = other (subst (λ (x : Descriptor). IsOwned demands (fields x)) (same_piece bytes e d q p) owned)
 
 one_entry_fault : (demands : Demands) (bytes : List ℕ) (f g : EntryFault) → IsFirstEntryFault demands bytes f → IsFirstEntryFault demands bytes g → f ≡ g
-one_entry_fault demands bytes (Field f) (Field g) p q = ap Field (first_is_one (unfenced bytes) f g p q)
+one_entry_fault demands bytes (Field f) (Field g) p q = ap Field (first_is_one Keeps (unfenced bytes) f g p q)
 one_entry_fault demands bytes (Field f) OverTransfer p q = absurd (p.stands (spelt_keeps bytes q.0 f q.1))
 one_entry_fault demands bytes (Field f) MixedPasid p q = absurd (p.stands (spelt_keeps bytes q.0 f q.1))
 one_entry_fault demands bytes (Field f) StagingMeets p q = absurd (p.stands (spelt_keeps bytes q.0 f q.1))

@@ -8,7 +8,7 @@ use Rattle.dsa_descriptor.specs.Descriptors.{fields}
 use Rattle.dsa_descriptor.specs.Fields.{Fields}
 use Rattle.dsa_descriptor.specs.Places.{u32_at, pasid_at, privileged_at}
 use Rattle.dsa_descriptor.specs.Spelling.{owner_word, spelling}
-use Rattle.dsa_descriptor.proofs.Entries.{length-spelling}
+use Rattle.dsa_descriptor.proofs.Listed.{length-spelling}
 use Rattle.dsa_emission.specs.EmissionFaults.{owner_at, Spells}
 use Rattle.dsa_descriptor.specs.Fences.{is_fenced, unfenced, with_fence}
 use Rattle.dsa_descriptor.proofs.Fenced.{or_one, fenced_spelling_set, unfenced_same, fence_is, without_fence}

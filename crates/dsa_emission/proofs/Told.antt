@@ -1,5 +1,5 @@
 -- What the bytes of an emission tell: one plan and one list of pieces.
-use Rattle.std.proofs.Common.{ℕ, zero, suc, ◌≡◌, ◌+◌, ◌*◌, ◌^◌, ◌<◌, ◌≤◌, inl, inr, false, cond, List, [], ◌∷◌, ◌++◌, length, take, drop, get_or, Some, refl, sym, ap, ◌∙◌, subst, slice_get, sum_by, arith}
+use Rattle.std.proofs.Common.{ℕ, zero, suc, ◌≡◌, ◌+◌, ◌*◌, ◌^◌, ◌<◌, ◌≤◌, inl, inr, Bool, false, cond, List, [], ◌∷◌, ◌++◌, length, take, drop, get_or, Some, refl, sym, ap, ◌∙◌, subst, slice_get, sum_by, arith}
 use Rattle.std.specs.Prelude.{map, slice_index_or, replicate, nat_lt}
 use Rattle.std.proofs.Math.Seq.{take-add}
 use Rattle.std.proofs.lemmas.Bool.{cases_lt}
@@ -16,14 +16,14 @@ use Rattle.dsa_descriptor.specs.Operands.{code_of}
 use Rattle.dsa_descriptor.specs.Places.{u32_at}
 use Rattle.dsa_descriptor.specs.Profile.{IsListed}
 use Rattle.dsa_descriptor.specs.Spelling.{spelling}
-use Rattle.dsa_descriptor.proofs.Entries.{length-spelling}
+use Rattle.dsa_descriptor.proofs.Listed.{length-spelling}
 use Rattle.dsa_descriptor.proofs.Same.{one_spelling}
 use Rattle.dsa_emission.specs.declared.place.Place.{Place}
 use Rattle.dsa_settings.specs.Plan.{Group, Plan, piece_count, start_of}
 use Rattle.dsa_settings.specs.Settings.{Limits}
-use Rattle.dsa_descriptor.specs.Fences.{with_fence}
+use Rattle.dsa_descriptor.specs.Fences.{fenced}
 use Rattle.dsa_emission.specs.Emission.{batched, batch_count, batched_count, place_of, batch_spelling, portal_entry, fenced_spelling, staged, joined, portal_bytes, staging_bytes, CanBeEmitted}
-use Rattle.dsa_descriptor.proofs.Fenced.{length-fenced_one, one_fenced}
+use Rattle.dsa_descriptor.proofs.Fenced.{fenced_alike, length-fenced_one, one_fenced}
 use Rattle.dsa_settings.proofs.Plans.{EachGroup, each_group}
 use Rattle.dsa_emission.proofs.Places.{batch_yes, batch_no, batch_staged, lone_staged, placed, IsPlaced, entry_batch, entry_lone}
 
@@ -149,11 +149,15 @@ size_told s total total' place place' g g' ds ds' fits fits' same =
 
 -- ---- the descriptors of one batch
 
+-- the bytes of one of them, by its fields
+pub length-fenced_piece : (e : Descriptor) (fence : Bool) → length (fenced fence (spelling (fields e))) ≡ 64
+length-fenced_piece e fence = ap length (fenced_alike e fence) ∙ length-fenced_one (fields e) fence e.listed
+
 pub length-fenced : (g : Group) (es : List Descriptor) → length g ≤ length es → length (fenced_spelling g (map fields es)) ≡ 64 * length g
 length-fenced [] es within = omega arith
 length-fenced (x ∷ g) [] within = absurd (omega arith)
 length-fenced (x ∷ g) (e ∷ es) within =
-    omega (arith, length-append (spelling (with_fence x (fields e))) (fenced_spelling g (map fields es)), length-fenced_one (fields e) x e.listed, length-fenced g es (omega arith))
+    omega (arith, length-append (fenced x (spelling (fields e))) (fenced_spelling g (map fields es)), length-fenced_piece e x, length-fenced g es (omega arith))
 
 pub fenced_told : (g g' : Group) (es es' : List Descriptor) → length g ≡ length g' → length g ≤ length es → length g ≤ length es' →
     fenced_spelling g (map fields es) ≡ fenced_spelling g' (map fields es') → (g ≡ g') × (take (length g) es ≡ take (length g) es')
@@ -165,8 +169,8 @@ fenced_told (x ∷ g) (y ∷ g') (e ∷ es) [] size within within' same = absurd
 fenced_told (x ∷ g) (y ∷ g') (e ∷ es) (d ∷ es') size within within' same =
     let long : length (fenced_spelling g (map fields es)) ≡ length (fenced_spelling g' (map fields es')) =
     omega (arith, length-fenced g es (omega arith), length-fenced g' es' (omega arith)) in
-    let both = append_same (spelling (with_fence x (fields e))) (fenced_spelling g (map fields es)) (spelling (with_fence y (fields d))) (fenced_spelling g' (map fields es')) same long in
-    let first = one_fenced e d x y both.0 in
+    let both = append_same (fenced x (spelling (fields e))) (fenced_spelling g (map fields es)) (fenced y (spelling (fields d))) (fenced_spelling g' (map fields es')) same long in
+    let first = one_fenced e d x y (sym (fenced_alike e x) ∙ both.0 ∙ fenced_alike d y) in
     let later = fenced_told g g' es es' (omega arith) (omega arith) (omega arith) both.1 in
     let flag : x ≡ y = first.0 in
     let flags : g ≡ g' = later.0 in

@@ -3,9 +3,9 @@ use Rattle.std.specs.Prelude.{ℕ, zero, suc, ◌≡◌, ◌+◌, ◌*◌, ◌�
 use Rattle.std.specs.Int.{w32, w64, to_le_bytes}
 use Rattle.std.specs.List.{flat_map, zip}
 use Rattle.dsa_descriptor.specs.declared.span.Span.{Span}
-use Rattle.dsa_descriptor.specs.Fences.{with_fence}
+use Rattle.dsa_descriptor.specs.Fences.{fenced}
 use Rattle.dsa_descriptor.specs.Fields.{Fields}
-use Rattle.dsa_descriptor.specs.Lists.{list_spelling, HaveOneOwner}
+use Rattle.dsa_descriptor.specs.Lists.{HaveOneOwner}
 use Rattle.dsa_descriptor.specs.Spans.{InSpan}
 use Rattle.dsa_descriptor.specs.Spelling.{spelling}
 use Rattle.dsa_descriptor.specs.Pieces.{most_pieces}
@@ -57,21 +57,23 @@ unfoldable pub batch_spelling : List ℕ → ℕ → ℕ → ℕ → List ℕ
 batch_spelling owner record_at list_at count =
     owner ++ to_le_bytes w32 0x0100000c ++ to_le_bytes w64 record_at ++ to_le_bytes w64 list_at ++ replicate 8 0 ++ to_le_bytes w32 count ++ replicate 28 0
 
--- the entry of a group: its piece, or a batch descriptor whose descriptors and record are in the staging area, where the
--- records come after the descriptors of all `total` pieces in batches
-abbrev pub portal_entry : Limits → ℕ → Place → Group → List Fields → List ℕ
-portal_entry s total place group pieces =
-    if is_batch group
-    then batch_spelling (take 4 (list_spelling pieces)) (s.staging + 64 * total + 32 * place.batches) (s.staging + 64 * place.batched) (length group)
-    else list_spelling (take (length group) (drop place.start pieces))
+-- ---- pieces of any kind, by the bytes that spell each
 
--- the descriptors of a batch, each fenced if the group says so
-abbrev pub fenced_spelling : Group → List Fields → List ℕ
-fenced_spelling group pieces = flat_map (λ p. spelling (with_fence p.0 p.1)) (zip group pieces)
+-- the entry of a group: its piece, or a batch descriptor whose pieces and record are in the staging area, where the
+-- records come after all `total` pieces in batches
+abbrev pub group_entry : {P : Type 0} → (P → List ℕ) → Limits → ℕ → Place → Group → List P → List ℕ
+group_entry spell s total place group pieces =
+    if is_batch group
+    then batch_spelling (take 4 (flat_map spell pieces)) (s.staging + 64 * total + 32 * place.batches) (s.staging + 64 * place.batched) (length group)
+    else flat_map spell (take (length group) (drop place.start pieces))
+
+-- the bytes of the pieces of a batch, each fenced if the group says so
+abbrev pub fenced_pieces : {P : Type 0} → (P → List ℕ) → Group → List P → List ℕ
+fenced_pieces spell group pieces = flat_map (λ p. fenced p.0 (spell p.1)) (zip group pieces)
 
 -- what a group has in the staging area
-abbrev pub staged : Place → Group → List Fields → List ℕ
-staged place group pieces = if is_batch group then fenced_spelling group (drop place.start pieces) else []
+abbrev pub group_staged : {P : Type 0} → (P → List ℕ) → Place → Group → List P → List ℕ
+group_staged spell place group pieces = if is_batch group then fenced_pieces spell group (drop place.start pieces) else []
 
 -- the parts of the numbers below n, one after another
 abbrev pub joined : (ℕ → List ℕ) → ℕ → List ℕ
@@ -79,14 +81,37 @@ joined part zero = []
 joined part (suc n) = joined part n ++ part n
 
 -- one entry for each group (specification 341204, batch descriptor; linux/idxd.h)
-abbrev pub portal_bytes : Limits → Plan → List Fields → List ℕ
-portal_bytes s plan pieces =
-    joined (λ number. portal_entry s (batched_count plan) (place_of plan number) (slice_index_or plan number []) pieces) (length plan)
+abbrev pub portal_of : {P : Type 0} → (P → List ℕ) → Limits → Plan → List P → List ℕ
+portal_of spell s plan pieces =
+    joined (λ number. group_entry spell s (batched_count plan) (place_of plan number) (slice_index_or plan number []) pieces) (length plan)
 
--- the descriptors of each batch, and then 32 zero bytes for the completion record of each (this project's choice)
+-- the pieces of each batch, and then 32 zero bytes for the completion record of each (this project's choice)
+abbrev pub staging_of : {P : Type 0} → (P → List ℕ) → Plan → List P → List ℕ
+staging_of spell plan pieces =
+    joined (λ number. group_staged spell (place_of plan number) (slice_index_or plan number []) pieces) (length plan)
+    ++ replicate (32 * batch_count plan) 0
+
+-- ---- pieces that are descriptors
+
+-- the entry of a group of descriptors
+abbrev pub portal_entry : Limits → ℕ → Place → Group → List Fields → List ℕ
+portal_entry s total place group pieces = group_entry spelling s total place group pieces
+
+-- the descriptors of a batch, each fenced if the group says so
+abbrev pub fenced_spelling : Group → List Fields → List ℕ
+fenced_spelling group pieces = fenced_pieces spelling group pieces
+
+-- what a group of descriptors has in the staging area
+abbrev pub staged : Place → Group → List Fields → List ℕ
+staged place group pieces = group_staged spelling place group pieces
+
+-- one entry for each group of descriptors
+abbrev pub portal_bytes : Limits → Plan → List Fields → List ℕ
+portal_bytes s plan pieces = portal_of spelling s plan pieces
+
+-- the descriptors of each batch, and room for its completion record
 abbrev pub staging_bytes : Plan → List Fields → List ℕ
-staging_bytes plan pieces =
-    joined (λ number. staged (place_of plan number) (slice_index_or plan number []) pieces) (length plan) ++ replicate (32 * batch_count plan) 0
+staging_bytes plan pieces = staging_of spelling plan pieces
 
 -- the staging area of these pieces
 abbrev pub staging_span : Limits → List Fields → Span

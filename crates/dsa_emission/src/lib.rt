@@ -9,7 +9,7 @@ mod place;
 mod portal;
 mod reading;
 
-pub use emission::{Emission, emit};
+pub use emission::{Emission, emit, emit_entries};
 pub use emission_fault::{EmissionFault, EntryFault};
 pub use laws::{emission_at_places, one_emission};
 pub use reading::read_emission;

@@ -9,7 +9,5 @@ pub mod Apart
 pub mod Windows
 pub mod Conflicting
 pub mod Listed
-pub mod Entries
-pub mod Unfenced
-pub mod Fenced
-pub mod Marked
+pub mod First
+pub mod Submitted

@@ -8,8 +8,7 @@ pub mod Places
 pub mod Spelling
 pub mod Faults
 pub mod Operations
-pub mod Lists
-pub mod Fences
 pub mod Laws
 pub mod Samples
 pub mod Members
+pub mod Submissions

@@ -5,21 +5,17 @@ mod checksum;
 mod checksum_op;
 mod flags;
 mod laws;
-mod list;
 mod operation;
 mod places;
 mod planning;
 mod reading;
-mod reading_list;
-mod writing_list;
+mod submitting;
 
 pub use checksum::Checksum;
 pub use checksum_op::{ChecksumOp, Seed};
 pub use laws::{
     checksums_are_listed, checksums_are_spelt, descriptors_conflict_alike, one_spelling,
 };
-pub use list::OperationList;
-pub use operation::Operation;
+pub use operation::{Operation, OperationList};
 pub use planning::search_operations;
-pub use reading_list::read_operations;
-pub use writing_list::{descriptors_are_fenced_alike, operation_list_reads_back, write_operations};
+pub use submitting::{PlannedOperations, plan_entries, plan_operation_list};

@@ -1,11 +1,13 @@
 //! Lists of operations, checksums among them.
 
-use dsa_descriptor::{FieldFault, ListFault};
-use dsa_operations::{
-    Operation, OperationList, descriptors_are_fenced_alike, operation_list_reads_back,
-    read_operations, search_operations, write_operations,
+use dsa_calls::PlanFault;
+use dsa_descriptor::{
+    FieldFault, ListFault, descriptors_are_fenced_alike, entries_read_back, read_entries,
+    write_entries,
 };
+use dsa_operations::{Operation, OperationList, plan_operation_list, search_operations};
 use dsa_plan::Settings;
+use dsa_splitter::SplitFault;
 use std::test::Fail;
 
 /// The checksum of 256 bytes at 0x1000, with the seed 0, record 0x8000.
@@ -49,17 +51,14 @@ fn two_checksums_and_a_copy() -> [u8; 192] {
 fn checksums_are_planned(rt: HostRuntime) -> Result<(), Fail> {
     let alloc = rt.alloc();
     let settings = Settings::new(32, 4096, 10, 14, 3, 65536)?;
-    let OperationList {
-        operations,
-        barriers,
-    } = read_operations(alloc, &two_checksums_and_a_copy())?;
-    assert!(rt; barriers.as_slice() == [false, false, true].as_slice());
-    assert!(rt; operations.len() == 3);
-    let Operation::Checksum(copied) = &operations[2] else {
+    let list: OperationList = read_entries(alloc, &two_checksums_and_a_copy())?;
+    assert!(rt; list.barriers.as_slice() == [false, false, true].as_slice());
+    assert!(rt; list.entries.len() == 3);
+    let Operation::Checksum(copied) = &list.entries[2] else {
         panic!(rt; "the third is no checksum");
     };
     assert!(rt; copied.variant().bypasses_inversion && !copied.variant().bypasses_data_reflection);
-    let found = search_operations(alloc, &operations, &barriers, &settings)?;
+    let found = search_operations(alloc, &list.entries, &list.barriers, &settings)?;
     assert!(rt; found.prices.as_slice() == [0, 10, 17, 20].as_slice());
     assert!(rt; found.plan.groups().len() == 1);
     assert!(rt; found.plan.groups()[0].fences() == [false, true, true].as_slice());
@@ -70,9 +69,10 @@ fn checksums_are_planned(rt: HostRuntime) -> Result<(), Fail> {
 fn operations_are_written_as_they_were_read(rt: HostRuntime) -> Result<(), Fail> {
     let alloc = rt.alloc();
     let bytes = two_checksums_and_a_copy();
-    let list = read_operations(alloc, &bytes)?;
-    assert!(rt; write_operations(alloc, &list)?.as_slice() == bytes.as_slice());
-    operation_list_reads_back();
+    let list: OperationList = read_entries(alloc, &bytes)?;
+    let written = write_entries(alloc, &list.entries, &list.barriers)?;
+    assert!(rt; written.as_slice() == bytes.as_slice());
+    entries_read_back::<Operation>();
     descriptors_are_fenced_alike();
     Ok(())
 }
@@ -82,6 +82,41 @@ fn operations_are_written_as_they_were_read(rt: HostRuntime) -> Result<(), Fail>
 fn another_code_is_refused_at_its_index(rt: HostRuntime) {
     let mut bytes = two_checksums_and_a_copy();
     bytes[71] = 0x12;
-    let fault = read_operations(rt.alloc(), &bytes).err();
+    let fault = read_entries::<Operation>(rt.alloc(), &bytes).err();
     assert!(rt; fault == Some(ListFault::Field(1, FieldFault::Opcode)));
+}
+
+/// One entry for the batch, whose record comes after the three descriptors; in the staging area the second and the
+/// third have the fence, and there is room for the record.
+#[test]
+fn checksums_are_submitted(rt: HostRuntime) -> Result<(), Fail> {
+    let settings = Settings::new(32, 4096, 10, 14, 3, 0x10000)?;
+    let planned = plan_operation_list(rt.alloc(), &two_checksums_and_a_copy(), &settings)?;
+    let mut portal = [0; 64];
+    portal[4..8].copy_from_slice(&[0x0c, 0x00, 0x00, 0x01]);
+    portal[8..11].copy_from_slice(&[0xc0, 0x00, 0x01]);
+    portal[16..19].copy_from_slice(&[0x00, 0x00, 0x01]);
+    portal[32] = 3;
+    let mut staging = [0; 224];
+    staging[..192].copy_from_slice(&two_checksums_and_a_copy());
+    staging[68] = 0x0d;
+    assert!(rt; planned.cost == 20);
+    assert!(rt; planned.emission.portal.as_slice() == portal.as_slice());
+    assert!(rt; planned.emission.staging.as_slice() == staging.as_slice());
+    Ok(())
+}
+
+/// No operation is split, and the staging area has 96 bytes for each.
+#[test]
+fn what_cannot_be_submitted_is_refused(rt: HostRuntime) -> Result<(), Fail> {
+    let list = two_checksums_and_a_copy();
+    let short = Settings::new(32, 248, 10, 14, 3, 0x10000)?;
+    let over = plan_operation_list(rt.alloc(), &list, &short).err();
+    assert!(rt; over == Some(PlanFault::OverTransfer(0)));
+    let met = Settings::new(32, 4096, 10, 14, 3, 0x4000)?;
+    let meeting = plan_operation_list(rt.alloc(), &list, &met).err();
+    assert!(rt; meeting == Some(PlanFault::Split(SplitFault::StagingMeets(2))));
+    let beside = Settings::new(32, 4096, 10, 14, 3, 0x4040)?;
+    assert!(rt; plan_operation_list(rt.alloc(), &list, &beside).is_ok());
+    Ok(())
 }

@@ -1,20 +1,18 @@
 -- The key of a missing fence.
-use Rattle.std.proofs.Common.{◌≡◌, ℕ, ◌+◌, ◌-◌, ◌<◌, ◌≤◌, ◌==◌, Bool, true, false, List, [], ◌++◌, length, Option, Some, sym, ap, subst, ◌∙◌, arith, slice_get, get_or, drop, inl, inr, append-nil, append_assoc, eqb-true}
+use Rattle.std.proofs.Common.{◌≡◌, ℕ, ◌+◌, ◌-◌, ◌<◌, ◌≤◌, ◌==◌, Bool, true, false, List, [], ◌∷◌, ◌++◌, length, Option, Some, sym, ap, subst, ◌∙◌, arith, slice_get, get_or, drop, inl, inr, append-nil, append_assoc, eqb-true, refl}
 use Rattle.std.specs.Prelude.{codes, decimal, slice_range}
 use Rattle.std.proofs.lemmas.Bool.{cases_Bool, cond-false}
 use Rattle.std.proofs.lemmas.List.{get_or-drop, get_or-take, length-drop, length-take}
 use Rattle.std.proofs.lemmas.Option.{slice_get-get_or}
-use Rattle.dsa_ranges.specs.declared.hazards.Hazard.{Hazard}
 use Rattle.dsa_audit.specs.declared.hazard.Hazards.{Hazards}
 use Rattle.dsa_audit.specs.declared.member.Member.{Member}
 use Rattle.dsa_audit.specs.Members.{AreHazardsBetween}
 use Rattle.dsa_recording.specs.declared.accepted.Accepted.{Accepted}
-use Rattle.dsa_recording.specs.declared.detail.Cause.{Cause}
-use Rattle.dsa_recording.specs.declared.detail.Cause.TheVariants as cause
+use Rattle.dsa_recording.specs.declared.detail.Conflict.{Conflict}
 use Rattle.dsa_recording.specs.declared.detail.Detail.{Detail}
 use Rattle.dsa_recording.specs.declared.findings.Finding.{Finding}
 use Rattle.dsa_recording.specs.declared.findings.FindingKind.{FindingKind}
-use Rattle.dsa_recording.specs.declared.findings.FindingKind.TheVariants.{MissingFence}
+use Rattle.dsa_recording.specs.declared.findings.FindingKind.TheVariants.{NotSeen, MissingFence, GuardingFence, SignallingFence, GuardingAndSignallingFence, NeedlessFence, Repeated, Flawed}
 use Rattle.dsa_recording.specs.declared.findings.Place.{Place}
 use Rattle.dsa_recording.specs.declared.findings.Place.TheVariants.{Member as Of}
 use Rattle.dsa_recording.specs.declared.stream.Submission.{Submission}
@@ -32,25 +30,27 @@ listed_by accepted es ms i j hs are (lt, within, conflict, (other, same, has)) =
 
 -- ---- the key of a finding is that of its pair
 
--- a cause of this kind is a missing fence, with a hazard
-pub record HasCause (earlier : ℕ) (c : Cause) : Type 0 where
-  pub hazard : Hazard
-  pub is : c ≡ cause.MissingFence earlier hazard
+-- a cause of this kind is a missing fence after that member
+pub record HasCause (earlier : ℕ) (c : FindingKind Conflict) : Type 0 where
+  pub conflict : Conflict
+  pub is : c ≡ MissingFence conflict
+  pub earlier_is : conflict.earlier ≡ earlier
 
-missing_cause : (earlier : ℕ) (c : Cause) → kind_of c ≡ MissingFence earlier → HasCause earlier c
-missing_cause earlier (cause.MissingFence i h) kind =
-    let same : i ≡ earlier = cc in
+missing_cause : (earlier : ℕ) (c : FindingKind Conflict) → kind_of c ≡ MissingFence earlier → HasCause earlier c
+missing_cause earlier (MissingFence conflict) kind =
+    let same : conflict.earlier ≡ earlier = cc in
     record {
-      hazard = h;
-      is = ap (λ (k : ℕ). cause.MissingFence k h) same;
+      conflict = conflict;
+      is = refl;
+      earlier_is = same;
     }
-missing_cause earlier (cause.NotSeen why) kind = absurd cc
-missing_cause earlier (cause.GuardingFence i) kind = absurd cc
-missing_cause earlier (cause.SignallingFence j) kind = absurd cc
-missing_cause earlier (cause.GuardingAndSignallingFence i j) kind = absurd cc
-missing_cause earlier cause.NeedlessFence kind = absurd cc
-missing_cause earlier (cause.Repeated i) kind = absurd cc
-missing_cause earlier (cause.Flawed flaw) kind = absurd cc
+missing_cause earlier (NotSeen why) kind = absurd cc
+missing_cause earlier (GuardingFence i) kind = absurd cc
+missing_cause earlier (SignallingFence j) kind = absurd cc
+missing_cause earlier (GuardingAndSignallingFence i j) kind = absurd cc
+missing_cause earlier NeedlessFence kind = absurd cc
+missing_cause earlier (Repeated i) kind = absurd cc
+missing_cause earlier (Flawed flaw) kind = absurd cc
 
 own_length : (es : List (List ℕ)) (first size : ℕ) → first + size ≤ length es → length (slice_range es first (first + size)) ≡ size
 own_length es first size within =
@@ -75,11 +75,11 @@ own_key es first size m within lt =
     ap (λ (o : Option (List ℕ)). codes "; member " ++ (decimal m ++ (codes ": " ++ entry_key o))) (own_entry es first size m within lt)
 
 -- what the key says, by the parts of the detail
-key_says : (es : List (List ℕ)) (d : Detail) (first size earlier later : ℕ) (h : Hazard) → d.first ≡ first → d.size ≡ size → d.entry ≡ first + later → d.is_batch ≡ true → d.place ≡ Of later
-    → d.cause ≡ cause.MissingFence earlier h → earlier < later
+key_says : (es : List (List ℕ)) (d : Detail) (first size earlier later : ℕ) → d.first ≡ first → d.size ≡ size → d.entry ≡ first + later → d.is_batch ≡ true → d.place ≡ Of later
+    → HasCause earlier d.cause → earlier < later
     → key_words es d ≡ fence_words d.hazards ++ ((batch_key size ++ member_key es first later) ++ member_key es first earlier)
-key_says es d first size earlier later h first_is size_is entry batch place cause_is lt =
-    let what : cause_key d.code d.hazards d.cause ≡ fence_words d.hazards = ap (cause_key d.code d.hazards) cause_is in
+key_says es d first size earlier later first_is size_is entry batch place has lt =
+    let what : cause_key d.code d.hazards d.cause ≡ fence_words d.hazards = ap (λ (c : FindingKind Conflict). cause_key d.code d.hazards c) has.is in
     let where_is : place_key es d d.is_batch d.place ≡ batch_key d.size ++ member_key es d.first later = ap (λ (b : Bool). place_key es d b d.place) batch ∙ ap (place_key es d true) place in
     let moved : batch_key d.size ++ member_key es d.first later ≡ batch_key size ++ member_key es first later = ap (λ (n : ℕ). batch_key n ++ member_key es d.first later) size_is ∙ ap (λ (n : ℕ). batch_key size ++ member_key es n later) first_is in
     let apart : (d.first + earlier == d.entry) ≡ false =
@@ -89,7 +89,8 @@ key_says es d first size earlier later h first_is size_is entry batch place caus
     ] in
     let other : other_key es d earlier ≡ member_key es d.first earlier = cond-false (d.first + earlier == d.entry) [] (member_key es d.first earlier) apart in
     let others : others_key es d (named_by d.cause) ≡ member_key es first earlier =
-    ap (λ (c : Cause). others_key es d (named_by c)) cause_is ∙ (append-nil (other_key es d earlier) ∙ (other ∙ ap (λ (n : ℕ). member_key es n earlier) first_is)) in
+    ap (λ (c : FindingKind Conflict). others_key es d (named_by c)) has.is
+    ∙ (ap (λ (m : ℕ). others_key es d (m ∷ [])) has.earlier_is ∙ (append-nil (other_key es d earlier) ∙ (other ∙ ap (λ (n : ℕ). member_key es n earlier) first_is))) in
     ap (λ (w : List ℕ). w ++ (place_key es d d.is_batch d.place ++ others_key es d (named_by d.cause))) what
     ∙ ap (λ (w : List ℕ). fence_words d.hazards ++ w) (ap (λ (w : List ℕ). w ++ others_key es d (named_by d.cause)) (where_is ∙ moved) ∙ ap (λ (w : List ℕ). (batch_key size ++ member_key es first later) ++ w) others)
 
@@ -99,12 +100,12 @@ keys_agree es s ms f d earlier later batch within place kind has says =
     let of : IsMemberCause ms later f.kind d.cause = subst (λ (p : Place). IsCause ms p f.kind d.cause) place says.cause in
     let c = missing_cause earlier d.cause (of.0 ∙ kind) in
     let at : AreHazardsAt ms (Of later) f.kind d.hazards = subst (λ (p : Place). AreHazardsAt ms p f.kind d.hazards) place says.hazards in
-    let are : AreHazardsBetween ms earlier later d.hazards = subst (λ (k : FindingKind). AreHazardsOf ms later k d.hazards) kind at in
+    let are : AreHazardsBetween ms earlier later d.hazards = subst (λ (k : FindingKind ℕ). AreHazardsOf ms later k d.hazards) kind at in
     let fits : IsOfMember ms later (MissingFence earlier) = subst (IsOfMember ms later) kind (subst (λ (p : Place). IsOf ms p f.kind) place has.kind) in
     let own : later < s.size = subst (IsPlaceOf s) place has.place in
     let long : length (members_in es s) ≡ s.size = own_length es s.first s.size within.members in
     let entry : d.entry ≡ s.first + later = says.entry ∙ ap (entry_at s) place in
-    let key = key_says es d s.first s.size earlier later c.hazard says.first says.size entry (says.is_batch ∙ batch) (says.place ∙ place) c.is fits.0 in (
+    let key = key_says es d s.first s.size earlier later says.first says.size entry (says.is_batch ∙ batch) (says.place ∙ place) c fits.0 in (
       d.hazards,
       are,
       key

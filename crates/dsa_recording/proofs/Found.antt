@@ -57,11 +57,11 @@ pub record IsAt (number : ℕ) (ms : List KnownMember) (f : Finding) : Type 0 wh
   pub kind : IsOf ms f.place f.kind
 
 -- what may be found fits the place
-abbrev Fits : List KnownMember → Place → Option FindingKind → Type 0
+abbrev Fits : List KnownMember → Place → Option (FindingKind ℕ) → Type 0
 Fits ms place None = Unit
 Fits ms place (Some kind) = IsOf ms place kind
 
-found_all : (number : ℕ) (ms : List KnownMember) (place : Place) (kinds : List (Option FindingKind)) → IsInside (length ms) place
+found_all : (number : ℕ) (ms : List KnownMember) (place : Place) (kinds : List (Option (FindingKind ℕ))) → IsInside (length ms) place
     → AllByRecursion (Fits ms place) kinds → AllByRecursion (IsAt number ms) (all_found number place kinds)
 found_all number ms place [] inside fit = tt
 found_all number ms place (None ∷ kinds) inside (here, fit) = found_all number ms place kinds inside fit

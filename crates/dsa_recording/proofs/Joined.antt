@@ -7,11 +7,11 @@ use Rattle.std.proofs.lemmas.Bool.{eq-eqb, eqb-false, eqb-true, ne_eqb}
 use Rattle.dsa_descriptor.specs.Places.{u32_at, u64_at, code_at}
 use Rattle.dsa_audit.specs.declared.hazard.Hazards.{Hazards}
 use Rattle.dsa_audit.specs.declared.member.Member.{Member as KnownMember}
-use Rattle.dsa_recording.specs.declared.detail.Cause.{Cause}
-use Rattle.dsa_recording.specs.declared.detail.Cause.TheVariants as cause
+use Rattle.dsa_recording.specs.declared.detail.Conflict.{Conflict}
 use Rattle.dsa_recording.specs.declared.detail.Detail.{Detail}
 use Rattle.dsa_recording.specs.declared.findings.Finding.{Finding}
 use Rattle.dsa_recording.specs.declared.findings.FindingKind.{FindingKind}
+use Rattle.dsa_recording.specs.declared.findings.FindingKind.TheVariants.{NotSeen, MissingFence, GuardingFence, SignallingFence, GuardingAndSignallingFence, NeedlessFence, Repeated, Flawed}
 use Rattle.dsa_recording.specs.declared.findings.Flaw.{Flaw}
 use Rattle.dsa_recording.specs.declared.findings.Flaw.TheVariants.{SharedRecord, OverwritesBatch, DataOverRecord, MisalignedRecord, ReservedBytes, SmallBatch, FenceWithoutEffect}
 use Rattle.dsa_recording.specs.declared.findings.Place.{Place}
@@ -32,7 +32,7 @@ use Rattle.dsa_recording.proofs.Middle.{get_middle, moved, nth_middle}
 abbrev pub renumbered : ℕ → Finding → Finding
 renumbered n f = record { submission = n + f.submission; place = f.place; kind = f.kind }
 
-place_renumbered : (n number : ℕ) (place : Place) (kinds : List (Option FindingKind))
+place_renumbered : (n number : ℕ) (place : Place) (kinds : List (Option (FindingKind ℕ)))
     → all_found (n + number) place kinds ≡ map (renumbered n) (all_found number place kinds)
 place_renumbered n number place [] = refl
 place_renumbered n number place (None ∷ kinds) = place_renumbered n number place kinds
@@ -85,8 +85,8 @@ abbrev IsPlaceWithin : ℕ → ℕ → Place → Type 0
 IsPlaceWithin first count Head = Unit
 IsPlaceWithin first count (Member k) = first + k < count
 
-flaw_within : (place : Place) (ms : List KnownMember) (first count : ℕ) (flaw : Flaw) → IsOf ms place (kind_of (cause.Flawed flaw))
-    → IsPlaceWithin first count place → AreWithin first count (named_by (cause.Flawed flaw))
+flaw_within : (place : Place) (ms : List KnownMember) (first count : ℕ) (flaw : Flaw) → IsOf ms place (kind_of (Flawed flaw))
+    → IsPlaceWithin first count place → AreWithin first count (named_by (Flawed flaw))
 flaw_within Head ms first count (SharedRecord earlier) of at = absurd of
 flaw_within (Member k) ms first count (SharedRecord earlier) of at = (omega (arith, of, at), tt)
 flaw_within place ms first count OverwritesBatch of at = tt
@@ -97,25 +97,25 @@ flaw_within place ms first count (SmallBatch size) of at = tt
 flaw_within place ms first count FenceWithoutEffect of at = tt
 
 -- what a cause names is within the entries, if the place and all members are
-named_within : (place : Place) (ms : List KnownMember) (first count : ℕ) (c : Cause) → IsOf ms place (kind_of c)
+named_within : (place : Place) (ms : List KnownMember) (first count : ℕ) (c : FindingKind Conflict) → IsOf ms place (kind_of c)
     → IsPlaceWithin first count place → first + length ms ≤ count → AreWithin first count (named_by c)
-named_within Head ms first count (cause.NotSeen why) of at room = absurd of
-named_within Head ms first count (cause.MissingFence earlier h) of at room = absurd of
-named_within Head ms first count (cause.GuardingFence earlier) of at room = absurd of
-named_within Head ms first count (cause.SignallingFence awaited) of at room = absurd of
-named_within Head ms first count (cause.GuardingAndSignallingFence earlier awaited) of at room = absurd of
-named_within Head ms first count cause.NeedlessFence of at room = absurd of
-named_within Head ms first count (cause.Repeated earlier) of at room = absurd of
-named_within Head ms first count (cause.Flawed flaw) of at room = flaw_within Head ms first count flaw of at
-named_within (Member k) ms first count (cause.NotSeen why) of at room = tt
-named_within (Member k) ms first count (cause.MissingFence earlier h) of at room = (omega (arith, of.0, at), tt)
-named_within (Member k) ms first count (cause.GuardingFence earlier) of at room = (omega (arith, of, at), tt)
-named_within (Member k) ms first count (cause.SignallingFence awaited) of at room = (omega (arith, of.1, room), tt)
-named_within (Member k) ms first count (cause.GuardingAndSignallingFence earlier awaited) of at room =
+named_within Head ms first count (NotSeen why) of at room = absurd of
+named_within Head ms first count (MissingFence conflict) of at room = absurd of
+named_within Head ms first count (GuardingFence earlier) of at room = absurd of
+named_within Head ms first count (SignallingFence awaited) of at room = absurd of
+named_within Head ms first count (GuardingAndSignallingFence earlier awaited) of at room = absurd of
+named_within Head ms first count NeedlessFence of at room = absurd of
+named_within Head ms first count (Repeated earlier) of at room = absurd of
+named_within Head ms first count (Flawed flaw) of at room = flaw_within Head ms first count flaw of at
+named_within (Member k) ms first count (NotSeen why) of at room = tt
+named_within (Member k) ms first count (MissingFence conflict) of at room = (omega (arith, of.0, at), tt)
+named_within (Member k) ms first count (GuardingFence earlier) of at room = (omega (arith, of, at), tt)
+named_within (Member k) ms first count (SignallingFence awaited) of at room = (omega (arith, of.1, room), tt)
+named_within (Member k) ms first count (GuardingAndSignallingFence earlier awaited) of at room =
     (omega (arith, of.0, at), (omega (arith, of.2, room), tt))
-named_within (Member k) ms first count cause.NeedlessFence of at room = tt
-named_within (Member k) ms first count (cause.Repeated earlier) of at room = (omega (arith, of, at), tt)
-named_within (Member k) ms first count (cause.Flawed flaw) of at room = flaw_within (Member k) ms first count flaw of at
+named_within (Member k) ms first count NeedlessFence of at room = tt
+named_within (Member k) ms first count (Repeated earlier) of at room = (omega (arith, of, at), tt)
+named_within (Member k) ms first count (Flawed flaw) of at room = flaw_within (Member k) ms first count flaw of at
 
 -- a finding is in one submission
 one_in : (r : Reported) (f : Finding) (s t : Submission) (ms ns : List KnownMember) → IsIn r f s ms → IsIn r f t ns → (t ≡ s) × (ns ≡ ms)
@@ -192,35 +192,36 @@ module _ (pre es post : List (List ℕ)) where
   key_same : (d e : Detail) → IsMoved d e → IsPlaceWithin d.first (length es) d.place → AreWithin d.first (length es) (named_by d.cause) → key_words all e ≡ key_words es d
   key_same d e is at within =
       let key : cause_key e.code e.hazards e.cause ≡ cause_key d.code d.hazards d.cause =
-      ap (λ (k : ℕ). cause_key k e.hazards e.cause) is.code ∙ (ap (λ (hs : Hazards). cause_key d.code hs e.cause) is.hazards ∙ ap (cause_key d.code d.hazards) is.cause) in
+      ap (λ (k : ℕ). cause_key k e.hazards e.cause) is.code ∙ (ap (λ (hs : Hazards). cause_key d.code hs e.cause) is.hazards ∙ ap (λ (c : FindingKind Conflict). cause_key d.code d.hazards c) is.cause) in
       let middle : place_key all e e.is_batch e.place ≡ place_key es d d.is_batch d.place =
       ap (λ (b : Bool). place_key all e b e.place) is.is_batch ∙ (ap (place_key all e d.is_batch) is.place ∙ place_same d e d.is_batch d.place is at) in
       let last : others_key all e (named_by e.cause) ≡ others_key es d (named_by d.cause) =
-      ap (λ (c : Cause). others_key all e (named_by c)) is.cause ∙ others_same d e (named_by d.cause) is within in
+      ap (λ (c : FindingKind Conflict). others_key all e (named_by c)) is.cause ∙ others_same d e (named_by d.cause) is within in
       ap (λ (w : List ℕ). w ++ (place_key all e e.is_batch e.place ++ others_key all e (named_by e.cause))) key
       ∙ ap (λ (w : List ℕ). cause_key d.code d.hazards d.cause ++ w)
       (ap (λ (w : List ℕ). w ++ others_key all e (named_by e.cause)) middle ∙ ap (λ (w : List ℕ). place_key es d d.is_batch d.place ++ w) last)
 
   -- whose record has the address
-  records_same : (first at place moved_first : ℕ) (c : Cause) → moved_first ≡ n + first → at ≡ n + place → place < length es → AreWithin first (length es) (named_by c)
+  records_same : (first at place moved_first : ℕ) (c : FindingKind Conflict) → moved_first ≡ n + first → at ≡ n + place → place < length es → AreWithin first (length es) (named_by c)
       → shared_records all moved_first at c ≡ shared_records es first place c
-  records_same first at place moved_first (cause.MissingFence earlier h) e f lt within =
-      let here : moved_first + earlier ≡ n + (first + earlier) = omega (arith, e) in
-      let one = entry_same (first + earlier) (moved_first + earlier) here within.0 in
+  records_same first at place moved_first (MissingFence conflict) e f lt within =
+      let address : ℕ = conflict.hazard.address in
+      let here : moved_first + conflict.earlier ≡ n + (first + conflict.earlier) = omega (arith, e) in
+      let one = entry_same (first + conflict.earlier) (moved_first + conflict.earlier) here within.0 in
       let other = entry_same place at f lt in
-      ap (λ (z : List ℕ). record { earlier = is_in_record h.address z; later = is_in_record h.address (slice_index_or all at []) }) one
-      ∙ ap (λ (z : List ℕ). record { earlier = is_in_record h.address (slice_index_or es (first + earlier) []); later = is_in_record h.address z }) other
-  records_same first at place moved_first (cause.NotSeen why) e f lt within = refl
-  records_same first at place moved_first (cause.GuardingFence earlier) e f lt within = refl
-  records_same first at place moved_first (cause.SignallingFence awaited) e f lt within = refl
-  records_same first at place moved_first (cause.GuardingAndSignallingFence earlier awaited) e f lt within = refl
-  records_same first at place moved_first cause.NeedlessFence e f lt within = refl
-  records_same first at place moved_first (cause.Repeated earlier) e f lt within = refl
-  records_same first at place moved_first (cause.Flawed flaw) e f lt within = refl
+      ap (λ (z : List ℕ). record { earlier = is_in_record address z; later = is_in_record address (slice_index_or all at []) }) one
+      ∙ ap (λ (z : List ℕ). record { earlier = is_in_record address (slice_index_or es (first + conflict.earlier) []); later = is_in_record address z }) other
+  records_same first at place moved_first (NotSeen why) e f lt within = refl
+  records_same first at place moved_first (GuardingFence earlier) e f lt within = refl
+  records_same first at place moved_first (SignallingFence awaited) e f lt within = refl
+  records_same first at place moved_first (GuardingAndSignallingFence earlier awaited) e f lt within = refl
+  records_same first at place moved_first NeedlessFence e f lt within = refl
+  records_same first at place moved_first (Repeated earlier) e f lt within = refl
+  records_same first at place moved_first (Flawed flaw) e f lt within = refl
 
   -- where the record is that a flaw is about
   flaw_same : (first at place moved_first : ℕ) (flaw : Flaw) → moved_first ≡ n + first → at ≡ n + place → place < length es
-      → AreWithin first (length es) (named_by (cause.Flawed flaw)) → flaw_record all moved_first at flaw ≡ flaw_record es first place flaw
+      → AreWithin first (length es) (named_by (Flawed flaw)) → flaw_record all moved_first at flaw ≡ flaw_record es first place flaw
   flaw_same first at place moved_first (SharedRecord earlier) e f lt within =
       let here : moved_first + earlier ≡ n + (first + earlier) = omega (arith, e) in
       ap (λ (o : Option (List ℕ)). shared_at o (slice_index_or all at [])) (there_same (first + earlier) (moved_first + earlier) here within.0)
@@ -233,16 +234,16 @@ module _ (pre es post : List (List ℕ)) where
   flaw_same first at place moved_first FenceWithoutEffect e f lt within = refl
 
   -- and of a cause
-  cause_same : (first at place moved_first : ℕ) (c : Cause) → moved_first ≡ n + first → at ≡ n + place → place < length es → AreWithin first (length es) (named_by c)
+  cause_same : (first at place moved_first : ℕ) (c : FindingKind Conflict) → moved_first ≡ n + first → at ≡ n + place → place < length es → AreWithin first (length es) (named_by c)
       → cause_record all moved_first at c ≡ cause_record es first place c
-  cause_same first at place moved_first (cause.MissingFence earlier h) e f lt within = refl
-  cause_same first at place moved_first (cause.NotSeen why) e f lt within = refl
-  cause_same first at place moved_first (cause.GuardingFence earlier) e f lt within = refl
-  cause_same first at place moved_first (cause.SignallingFence awaited) e f lt within = refl
-  cause_same first at place moved_first (cause.GuardingAndSignallingFence earlier awaited) e f lt within = refl
-  cause_same first at place moved_first cause.NeedlessFence e f lt within = refl
-  cause_same first at place moved_first (cause.Repeated earlier) e f lt within = refl
-  cause_same first at place moved_first (cause.Flawed flaw) e f lt within = flaw_same first at place moved_first flaw e f lt within
+  cause_same first at place moved_first (MissingFence conflict) e f lt within = refl
+  cause_same first at place moved_first (NotSeen why) e f lt within = refl
+  cause_same first at place moved_first (GuardingFence earlier) e f lt within = refl
+  cause_same first at place moved_first (SignallingFence awaited) e f lt within = refl
+  cause_same first at place moved_first (GuardingAndSignallingFence earlier awaited) e f lt within = refl
+  cause_same first at place moved_first NeedlessFence e f lt within = refl
+  cause_same first at place moved_first (Repeated earlier) e f lt within = refl
+  cause_same first at place moved_first (Flawed flaw) e f lt within = flaw_same first at place moved_first flaw e f lt within
 
   -- ---- details
 
@@ -254,11 +255,11 @@ module _ (pre es post : List (List ℕ)) where
   place_in s Head lt = tt
   place_in s (Member k) lt = lt
 
-  kind_is : (ms : List KnownMember) (place : Place) (kind : FindingKind) (c : Cause) → IsCause ms place kind c → kind_of c ≡ kind
+  kind_is : (ms : List KnownMember) (place : Place) (kind : FindingKind ℕ) (c : FindingKind Conflict) → IsCause ms place kind c → kind_of c ≡ kind
   kind_is ms Head kind c is = is.1
   kind_is ms (Member k) kind c is = is.0
 
-  names_within : (s : Submission) (ms : List KnownMember) (f : Finding) (c : Cause) → HasEntry es s ms f → s.first + length ms ≤ length es
+  names_within : (s : Submission) (ms : List KnownMember) (f : Finding) (c : FindingKind Conflict) → HasEntry es s ms f → s.first + length ms ≤ length es
       → IsCause ms f.place f.kind c → AreWithin s.first (length es) (named_by c)
   names_within s ms f c has room is =
       named_within f.place ms s.first (length es) c (subst (IsOf ms f.place) (sym (kind_is ms f.place f.kind c is)) has.kind) (place_in s f.place has.within) room

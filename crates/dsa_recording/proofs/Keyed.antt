@@ -5,8 +5,7 @@ use Rattle.dsa_descriptor.specs.Places.{code_at}
 use Rattle.dsa_audit.specs.declared.hazard.Hazards.{Hazards}
 use Rattle.dsa_audit.specs.declared.member.Member.{Member as KnownMember}
 use Rattle.dsa_audit.specs.Members.{AreHazardsBetween, ShareAddress, reads_at, writes_at}
-use Rattle.dsa_recording.specs.declared.detail.Cause.{Cause}
-use Rattle.dsa_recording.specs.declared.detail.Cause.TheVariants as cause
+use Rattle.dsa_recording.specs.declared.detail.Conflict.{Conflict}
 use Rattle.dsa_recording.specs.declared.detail.Detail.{Detail}
 use Rattle.dsa_recording.specs.declared.findings.Finding.{Finding}
 use Rattle.dsa_recording.specs.declared.findings.FindingKind.{FindingKind}
@@ -17,9 +16,7 @@ use Rattle.dsa_recording.specs.Reports.{Reported}
 use Rattle.dsa_recording.specs.declared.stream.Submission.{Submission}
 use Rattle.dsa_recording.specs.declared.submission.Audited.{Audited}
 use Rattle.dsa_recording.specs.Details.{AreHazardsAt, AreHazardsOf, entry_at, IsCause, IsDetail, kind_of, named_by, named_by_flaw}
-use Rattle.dsa_recording.specs.EntryKeys.{fence_words}
-use Rattle.dsa_recording.specs.Keys.{cause_key, flaw_key, key_words, others_key, place_key}
-use Rattle.dsa_recording.specs.Words.{unseen_words}
+use Rattle.dsa_recording.specs.Keys.{cause_key, key_words, others_key, place_key}
 
 -- a flag that says the same as another is that one
 same_flag : (P : Type 0) (a b : Bool) → (IsTrue a ↔ P) → (IsTrue b ↔ P) → a ≡ b
@@ -40,7 +37,7 @@ one_hazards ms i j hs other are same =
     λ k. record { read_after_write = first k; write_after_write = second k; write_after_read = third k }
 
 -- so has what is found of a member
-hazards_of_one : (ms : List KnownMember) (k : ℕ) (kind : FindingKind) (hs other : Hazards) → AreHazardsOf ms k kind hs → AreHazardsOf ms k kind other → hs ≡ other
+hazards_of_one : (ms : List KnownMember) (k : ℕ) (kind : FindingKind ℕ) (hs other : Hazards) → AreHazardsOf ms k kind hs → AreHazardsOf ms k kind other → hs ≡ other
 hazards_of_one ms k (NotSeen why) hs other are same = are ∙ sym same
 hazards_of_one ms k (MissingFence earlier) hs other are same = one_hazards ms earlier k hs other are same
 hazards_of_one ms k (GuardingFence earlier) hs other are same = are ∙ sym same
@@ -51,33 +48,23 @@ hazards_of_one ms k (Repeated earlier) hs other are same = are ∙ sym same
 hazards_of_one ms k (Flawed flaw) hs other are same = are ∙ sym same
 
 -- and of a place
-hazards_at_one : (ms : List KnownMember) (place : Place) (kind : FindingKind) (hs other : Hazards) → AreHazardsAt ms place kind hs → AreHazardsAt ms place kind other → hs ≡ other
+hazards_at_one : (ms : List KnownMember) (place : Place) (kind : FindingKind ℕ) (hs other : Hazards) → AreHazardsAt ms place kind hs → AreHazardsAt ms place kind other → hs ≡ other
 hazards_at_one ms Head kind hs other are same = are ∙ sym same
 hazards_at_one ms (Member k) kind hs other are same = hazards_of_one ms k kind hs other are same
 
--- ---- what a key says of a cause, by its kind and its hazards
+-- ---- what a key says of a cause rests on its kind and its hazards
 
-abbrev kind_key : ℕ → Hazards → FindingKind → List ℕ
-kind_key code hs (NotSeen why) = unseen_words why code
-kind_key code hs (MissingFence earlier) = fence_words hs
-kind_key code hs (GuardingFence earlier) = cause_key code hs (cause.GuardingFence earlier)
-kind_key code hs (SignallingFence awaited) = cause_key code hs (cause.SignallingFence awaited)
-kind_key code hs (GuardingAndSignallingFence earlier awaited) = cause_key code hs (cause.GuardingAndSignallingFence earlier awaited)
-kind_key code hs NeedlessFence = cause_key code hs cause.NeedlessFence
-kind_key code hs (Repeated earlier) = cause_key code hs (cause.Repeated earlier)
-kind_key code hs (Flawed flaw) = flaw_key flaw
+key_by_kind : (code : ℕ) (hs : Hazards) (c : FindingKind Conflict) → cause_key code hs c ≡ cause_key code hs (kind_of c)
+key_by_kind code hs (NotSeen why) = refl
+key_by_kind code hs (MissingFence conflict) = refl
+key_by_kind code hs (GuardingFence earlier) = refl
+key_by_kind code hs (SignallingFence awaited) = refl
+key_by_kind code hs (GuardingAndSignallingFence earlier awaited) = refl
+key_by_kind code hs NeedlessFence = refl
+key_by_kind code hs (Repeated earlier) = refl
+key_by_kind code hs (Flawed flaw) = refl
 
-key_by_kind : (code : ℕ) (hs : Hazards) (c : Cause) → cause_key code hs c ≡ kind_key code hs (kind_of c)
-key_by_kind code hs (cause.NotSeen why) = refl
-key_by_kind code hs (cause.MissingFence earlier h) = refl
-key_by_kind code hs (cause.GuardingFence earlier) = refl
-key_by_kind code hs (cause.SignallingFence awaited) = refl
-key_by_kind code hs (cause.GuardingAndSignallingFence earlier awaited) = refl
-key_by_kind code hs cause.NeedlessFence = refl
-key_by_kind code hs (cause.Repeated earlier) = refl
-key_by_kind code hs (cause.Flawed flaw) = refl
-
-abbrev kind_named : FindingKind → List ℕ
+abbrev kind_named : FindingKind ℕ → List ℕ
 kind_named (NotSeen why) = []
 kind_named (MissingFence earlier) = earlier ∷ []
 kind_named (GuardingFence earlier) = earlier ∷ []
@@ -87,18 +74,18 @@ kind_named NeedlessFence = []
 kind_named (Repeated earlier) = earlier ∷ []
 kind_named (Flawed flaw) = named_by_flaw flaw
 
-named_by_kind : (c : Cause) → named_by c ≡ kind_named (kind_of c)
-named_by_kind (cause.NotSeen why) = refl
-named_by_kind (cause.MissingFence earlier h) = refl
-named_by_kind (cause.GuardingFence earlier) = refl
-named_by_kind (cause.SignallingFence awaited) = refl
-named_by_kind (cause.GuardingAndSignallingFence earlier awaited) = refl
-named_by_kind cause.NeedlessFence = refl
-named_by_kind (cause.Repeated earlier) = refl
-named_by_kind (cause.Flawed flaw) = refl
+named_by_kind : (c : FindingKind Conflict) → named_by c ≡ kind_named (kind_of c)
+named_by_kind (NotSeen why) = refl
+named_by_kind (MissingFence conflict) = refl
+named_by_kind (GuardingFence earlier) = refl
+named_by_kind (SignallingFence awaited) = refl
+named_by_kind (GuardingAndSignallingFence earlier awaited) = refl
+named_by_kind NeedlessFence = refl
+named_by_kind (Repeated earlier) = refl
+named_by_kind (Flawed flaw) = refl
 
 -- a cause of what is found has its kind
-kind_of_found : (ms : List KnownMember) (place : Place) (kind : FindingKind) (c : Cause) → IsCause ms place kind c → kind_of c ≡ kind
+kind_of_found : (ms : List KnownMember) (place : Place) (kind : FindingKind ℕ) (c : FindingKind Conflict) → IsCause ms place kind c → kind_of c ≡ kind
 kind_of_found ms Head kind c is = is.1
 kind_of_found ms (Member k) kind c is = is.0
 
@@ -116,9 +103,9 @@ of_place es d e first size b Head = cc
 of_place es d e first size true (Member m) = cc
 of_place es d e first size false (Member m) = cc
 
-by_kinds : (m n : ℕ) (hs other : Hazards) (k l : FindingKind) → m ≡ n → hs ≡ other → k ≡ l → kind_key m hs k ≡ kind_key n other l
+by_kinds : (m n : ℕ) (hs other : Hazards) (k l : FindingKind ℕ) → m ≡ n → hs ≡ other → k ≡ l → cause_key m hs k ≡ cause_key n other l
 by_kinds m n hs other k l codes hazards kinds =
-    ap (λ (z : ℕ). kind_key z hs k) codes ∙ (ap (λ (z : Hazards). kind_key n z k) hazards ∙ ap (kind_key n other) kinds)
+    ap (λ (z : ℕ). cause_key z hs k) codes ∙ (ap (λ (z : Hazards). cause_key n z k) hazards ∙ ap (λ (z : FindingKind ℕ). cause_key n other z) kinds)
 
 joined : (a b c x y z : List ℕ) → a ≡ x → b ≡ y → c ≡ z → a ++ (b ++ c) ≡ x ++ (y ++ z)
 joined a b c x y z e f g = ap (λ (w : List ℕ). w ++ (b ++ c)) e ∙ ap (λ (w : List ℕ). x ++ w) (ap (λ (w : List ℕ). w ++ c) f ∙ ap (λ (w : List ℕ). y ++ w) g)

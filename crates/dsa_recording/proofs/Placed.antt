@@ -7,8 +7,9 @@ use Rattle.dsa_recording.specs.declared.submission.Audited.{Audited}
 use Rattle.dsa_recording.specs.declared.findings.Finding.{Finding}
 use Rattle.dsa_recording.specs.declared.detail.Detail.{Detail}
 use Rattle.dsa_recording.specs.Reports.{Reported}
-use Rattle.dsa_recording.specs.declared.detail.Cause.{Cause}
-use Rattle.dsa_recording.specs.declared.detail.Cause.TheVariants as cause
+use Rattle.dsa_recording.specs.declared.detail.Conflict.{Conflict}
+use Rattle.dsa_recording.specs.declared.findings.FindingKind.{FindingKind}
+use Rattle.dsa_recording.specs.declared.findings.FindingKind.TheVariants.{NotSeen, MissingFence, GuardingFence, SignallingFence, GuardingAndSignallingFence, NeedlessFence, Repeated, Flawed}
 use Rattle.dsa_recording.specs.Details.{IsAfter, HasEntry, Describes, IsPlaced, IsDetail}
 
 pub placed : (es : List (List ℕ)) (r : Reported) (f : Finding) (s : Submission) (a : Audited) (ms : List Member) (o : Option Detail)
@@ -24,12 +25,12 @@ placed es r f s a ms None i j e none = λ (t, ns, there, has).
     none (subst (λ (z : Submission). HasEntry es z ms f) one (subst (λ (z : List Member). HasEntry es t z f) same has))
 
 -- of entries what holds of members
-pub after_entry : (first member entry : ℕ) (c : Cause) → entry ≡ first + member → IsAfter 0 member c → IsAfter first entry c
-after_entry first member entry (cause.MissingFence earlier h) e lt = omega (arith, e, lt)
-after_entry first member entry (cause.NotSeen why) e lt = tt
-after_entry first member entry (cause.GuardingFence earlier) e lt = tt
-after_entry first member entry (cause.SignallingFence awaited) e lt = tt
-after_entry first member entry (cause.GuardingAndSignallingFence earlier awaited) e lt = tt
-after_entry first member entry cause.NeedlessFence e lt = tt
-after_entry first member entry (cause.Repeated earlier) e lt = tt
-after_entry first member entry (cause.Flawed flaw) e lt = tt
+pub after_entry : (first member entry : ℕ) (c : FindingKind Conflict) → entry ≡ first + member → IsAfter 0 member c → IsAfter first entry c
+after_entry first member entry (MissingFence conflict) e lt = omega (arith, e, lt)
+after_entry first member entry (NotSeen why) e lt = tt
+after_entry first member entry (GuardingFence earlier) e lt = tt
+after_entry first member entry (SignallingFence awaited) e lt = tt
+after_entry first member entry (GuardingAndSignallingFence earlier awaited) e lt = tt
+after_entry first member entry NeedlessFence e lt = tt
+after_entry first member entry (Repeated earlier) e lt = tt
+after_entry first member entry (Flawed flaw) e lt = tt

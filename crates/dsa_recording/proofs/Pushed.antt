@@ -32,7 +32,7 @@ all_audited assumed es ss i audits all le = subst (λ (z : List Submission). Are
 -- ---- findings
 
 -- what is found of a place, kind by kind
-pub found_more : (number : ℕ) (place : Place) (kinds : List (Option FindingKind)) (i : ℕ) → i < length kinds
+pub found_more : (number : ℕ) (place : Place) (kinds : List (Option (FindingKind ℕ))) (i : ℕ) → i < length kinds
     → all_found number place (take (suc i) kinds) ≡ all_found number place (take i kinds) ++ finding_of number place (get_or kinds i None)
 found_more number place [] i lt = absurd (omega arith)
 found_more number place (k ∷ kinds) zero lt = append-nil (finding_of number place k)
@@ -40,7 +40,7 @@ found_more number place (k ∷ kinds) (suc i) lt =
     ap (λ (l : List Finding). finding_of number place k ++ l) (found_more number place kinds i (omega (arith, lt)))
     ∙ sym (append_assoc (finding_of number place k) (all_found number place (take i kinds)) (finding_of number place (get_or kinds i None)))
 
-pub kind_pushed : (number : ℕ) (place : Place) (kinds : List (Option FindingKind)) (i : ℕ) (old before after : List Finding) → i < length kinds
+pub kind_pushed : (number : ℕ) (place : Place) (kinds : List (Option (FindingKind ℕ))) (i : ℕ) (old before after : List Finding) → i < length kinds
     → before ≡ old ++ all_found number place (take i kinds) → after ≡ before ++ finding_of number place (get_or kinds i None)
     → after ≡ old ++ all_found number place (take (i + 1) kinds)
 kind_pushed number place kinds i old before after lt so_far now =
@@ -50,7 +50,7 @@ kind_pushed number place kinds i old before after lt so_far now =
     let next : suc i ≡ i + 1 = omega arith in
     subst (λ (n : ℕ). after ≡ old ++ all_found number place (take n kinds)) next here
 
-pub member_pushed : (number : ℕ) (a : Audited) (k : ℕ) (old before after : List Finding) (kinds : List (Option FindingKind))
+pub member_pushed : (number : ℕ) (a : Audited) (k : ℕ) (old before after : List Finding) (kinds : List (Option (FindingKind ℕ)))
     → before ≡ old ++ findings_upto number a k → kinds ≡ member_kinds a k → after ≡ before ++ all_found number (Member k) kinds → after ≡ old ++ findings_upto number a (k + 1)
 member_pushed number a k old before after kinds so_far are now =
     let found : List Finding = all_found number (Member k) (member_kinds a k) in

@@ -80,19 +80,19 @@ apart_counted : (xs ys : List Finding) → needless_count (xs ++ ys) ≡ needles
 apart_counted xs ys = sum_by-append (λ (f : Finding). cond (is_needless f.kind) 1 0) xs ys
 
 -- one if it is, else none
-abbrev one_of : Option FindingKind → ℕ
+abbrev one_of : Option (FindingKind ℕ) → ℕ
 one_of None = 0
 one_of (Some kind) = cond (is_needless kind) 1 0
 
-one_found : (number : ℕ) (place : Place) (kind : Option FindingKind) → needless_count (finding_of number place kind) ≡ one_of kind
+one_found : (number : ℕ) (place : Place) (kind : Option (FindingKind ℕ)) → needless_count (finding_of number place kind) ≡ one_of kind
 one_found number place None = refl
 one_found number place (Some kind) = omega arith
 
-abbrev all_of : List (Option FindingKind) → ℕ
+abbrev all_of : List (Option (FindingKind ℕ)) → ℕ
 all_of [] = 0
 all_of (kind ∷ kinds) = one_of kind + all_of kinds
 
-all_counted : (number : ℕ) (place : Place) (kinds : List (Option FindingKind)) → needless_count (all_found number place kinds) ≡ all_of kinds
+all_counted : (number : ℕ) (place : Place) (kinds : List (Option (FindingKind ℕ))) → needless_count (all_found number place kinds) ≡ all_of kinds
 all_counted number place [] = refl
 all_counted number place (kind ∷ kinds) =
     let apart : needless_count (finding_of number place kind ++ all_found number place kinds) ≡ needless_count (finding_of number place kind) + needless_count (all_found number place kinds)

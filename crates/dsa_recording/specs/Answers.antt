@@ -15,13 +15,14 @@ use Rattle.dsa_recording.specs.declared.stream.Submission.{Submission}
 use Rattle.dsa_recording.specs.Streams.{ReadsStream}
 use Rattle.dsa_recording.specs.Accepted.{IsAccepted}
 use Rattle.dsa_recording.specs.Details.{IsPlaced}
-use Rattle.dsa_recording.specs.Findings.{is_harmless}
 use Rattle.dsa_recording.specs.Listings.{listing_text}
 use Rattle.dsa_recording.specs.Uses.{AreUsed}
+use Rattle.dsa_recording.specs.Words.{is_error, severity_of}
 
--- of these entries and their report the finding is no error: it is harmless, or accepted
+-- of these entries and their report the finding is no error: it is none under the options, or is accepted
 abbrev pub IsNoError : AuditOptions → List (List ℕ) → Reported → Finding → Type 0
-IsNoError options es r f = (is_harmless options.denied f.kind ≡ true) ⊎ IsAccepted options.accepted.now es r f
+IsNoError options es r f =
+    (is_error (severity_of options.denied f.kind) ≡ false) ⊎ IsAccepted options.accepted.now es r f
 
 -- all findings are no errors
 abbrev pub AreNoErrors : AuditOptions → List (List ℕ) → Reported → Type 0

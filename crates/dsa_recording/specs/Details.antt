@@ -16,8 +16,7 @@ use Rattle.dsa_recording.specs.declared.findings.Flaw.TheVariants.{SharedRecord,
 use Rattle.dsa_recording.specs.declared.findings.Place.{Place}
 use Rattle.dsa_recording.specs.declared.findings.Place.TheVariants.{Head, Member}
 use Rattle.dsa_recording.specs.declared.findings.FindingKind.TheVariants.{NotSeen, MissingFence, GuardingFence, SignallingFence, GuardingAndSignallingFence, NeedlessFence, Repeated, Flawed}
-use Rattle.dsa_recording.specs.declared.detail.Cause.{Cause}
-use Rattle.dsa_recording.specs.declared.detail.Cause.TheVariants as cause
+use Rattle.dsa_recording.specs.declared.detail.Conflict.{Conflict}
 use Rattle.dsa_recording.specs.declared.detail.Detail.{Detail}
 use Rattle.dsa_recording.specs.declared.detail.Records.{Records}
 use Rattle.dsa_ranges.specs.declared.hazards.Hazard.{Hazard}
@@ -27,7 +26,7 @@ use Rattle.dsa_recording.specs.Submissions.{head_at}
 use Rattle.dsa_recording.specs.Reports.{Reported}
 
 -- a finding of a place
-abbrev pub finding_at : ℕ → Place → FindingKind → Finding
+abbrev pub finding_at : ℕ → Place → FindingKind ℕ → Finding
 finding_at number place kind = record { submission = number; place = place; kind = kind }
 
 -- this can be wrong at the place: only a member shares a record, with an earlier one
@@ -42,7 +41,7 @@ IsFlawAt place (SmallBatch size) = Unit
 IsFlawAt place FenceWithoutEffect = Unit
 
 -- this can be found of the descriptor of a batch: flaws alone
-abbrev pub IsOfHead : FindingKind → Type 0
+abbrev pub IsOfHead : FindingKind ℕ → Type 0
 IsOfHead (NotSeen why) = ⊥
 IsOfHead (MissingFence earlier) = ⊥
 IsOfHead (GuardingFence earlier) = ⊥
@@ -55,7 +54,7 @@ IsOfHead (Flawed flaw) = IsFlawAt Head flaw
 -- what is found of member k can be said of members with these operands: where a fence is missing, the earlier member is
 -- known to conflict with it; where one guards, or the member repeats another, that is an earlier one; where one signals,
 -- it is not
-abbrev pub IsOfMember : List KnownMember → ℕ → FindingKind → Type 0
+abbrev pub IsOfMember : List KnownMember → ℕ → FindingKind ℕ → Type 0
 IsOfMember ms k (NotSeen why) = Unit
 IsOfMember ms k (MissingFence earlier) = (earlier < k) × (k < length ms) × KnownConflict ms earlier k
 IsOfMember ms k (GuardingFence earlier) = earlier < k
@@ -66,20 +65,20 @@ IsOfMember ms k (Repeated earlier) = earlier < k
 IsOfMember ms k (Flawed flaw) = IsFlawAt (Member k) flaw
 
 -- the kind can be found of the place
-abbrev pub IsOf : List KnownMember → Place → FindingKind → Type 0
+abbrev pub IsOf : List KnownMember → Place → FindingKind ℕ → Type 0
 IsOf ms Head kind = IsOfHead kind
 IsOf ms (Member k) kind = IsOfMember ms k kind
 
 -- the kind of what is found, without its hazard
-abbrev pub kind_of : Cause → FindingKind
-kind_of (cause.NotSeen why) = NotSeen why
-kind_of (cause.MissingFence earlier h) = MissingFence earlier
-kind_of (cause.GuardingFence earlier) = GuardingFence earlier
-kind_of (cause.SignallingFence awaited) = SignallingFence awaited
-kind_of (cause.GuardingAndSignallingFence earlier awaited) = GuardingAndSignallingFence earlier awaited
-kind_of cause.NeedlessFence = NeedlessFence
-kind_of (cause.Repeated earlier) = Repeated earlier
-kind_of (cause.Flawed flaw) = Flawed flaw
+abbrev pub kind_of : FindingKind Conflict → FindingKind ℕ
+kind_of (NotSeen why) = NotSeen why
+kind_of (MissingFence conflict) = MissingFence conflict.earlier
+kind_of (GuardingFence earlier) = GuardingFence earlier
+kind_of (SignallingFence awaited) = SignallingFence awaited
+kind_of (GuardingAndSignallingFence earlier awaited) = GuardingAndSignallingFence earlier awaited
+kind_of NeedlessFence = NeedlessFence
+kind_of (Repeated earlier) = Repeated earlier
+kind_of (Flawed flaw) = Flawed flaw
 
 -- the other member that a flaw names
 abbrev pub named_by_flaw : Flaw → List ℕ
@@ -92,37 +91,37 @@ named_by_flaw (SmallBatch size) = []
 named_by_flaw FenceWithoutEffect = []
 
 -- the other members that a cause names, in this order
-abbrev pub named_by : Cause → List ℕ
-named_by (cause.NotSeen why) = []
-named_by (cause.MissingFence earlier h) = earlier ∷ []
-named_by (cause.GuardingFence earlier) = earlier ∷ []
-named_by (cause.SignallingFence awaited) = awaited ∷ []
-named_by (cause.GuardingAndSignallingFence earlier awaited) = earlier ∷ awaited ∷ []
-named_by cause.NeedlessFence = []
-named_by (cause.Repeated earlier) = earlier ∷ []
-named_by (cause.Flawed flaw) = named_by_flaw flaw
+abbrev pub named_by : FindingKind Conflict → List ℕ
+named_by (NotSeen why) = []
+named_by (MissingFence conflict) = conflict.earlier ∷ []
+named_by (GuardingFence earlier) = earlier ∷ []
+named_by (SignallingFence awaited) = awaited ∷ []
+named_by (GuardingAndSignallingFence earlier awaited) = earlier ∷ awaited ∷ []
+named_by NeedlessFence = []
+named_by (Repeated earlier) = earlier ∷ []
+named_by (Flawed flaw) = named_by_flaw flaw
 
 -- the hazard of a missing fence before member k is between the two members
-abbrev pub HasHazard : List KnownMember → ℕ → Cause → Type 0
-HasHazard ms k (cause.NotSeen why) = Unit
-HasHazard ms k (cause.MissingFence earlier h) = IsHazardBetween ms earlier k h
-HasHazard ms k (cause.GuardingFence earlier) = Unit
-HasHazard ms k (cause.SignallingFence awaited) = Unit
-HasHazard ms k (cause.GuardingAndSignallingFence earlier awaited) = Unit
-HasHazard ms k cause.NeedlessFence = Unit
-HasHazard ms k (cause.Repeated earlier) = Unit
-HasHazard ms k (cause.Flawed flaw) = Unit
+abbrev pub HasHazard : List KnownMember → ℕ → FindingKind Conflict → Type 0
+HasHazard ms k (NotSeen why) = Unit
+HasHazard ms k (MissingFence conflict) = IsHazardBetween ms conflict.earlier k conflict.hazard
+HasHazard ms k (GuardingFence earlier) = Unit
+HasHazard ms k (SignallingFence awaited) = Unit
+HasHazard ms k (GuardingAndSignallingFence earlier awaited) = Unit
+HasHazard ms k NeedlessFence = Unit
+HasHazard ms k (Repeated earlier) = Unit
+HasHazard ms k (Flawed flaw) = Unit
 
 -- what is found of the descriptor of a batch; of a member, with the hazard of a missing fence
-abbrev pub IsHeadCause : FindingKind → Cause → Type 0
+abbrev pub IsHeadCause : FindingKind ℕ → FindingKind Conflict → Type 0
 IsHeadCause kind c = IsOfHead kind × (kind_of c ≡ kind)
 
 -- this is found of member k: a cause of this kind, and of a missing fence its hazard
-abbrev pub IsMemberCause : List KnownMember → ℕ → FindingKind → Cause → Type 0
+abbrev pub IsMemberCause : List KnownMember → ℕ → FindingKind ℕ → FindingKind Conflict → Type 0
 IsMemberCause ms k kind c = (kind_of c ≡ kind) × HasHazard ms k c
 
 -- this is found of the place
-abbrev pub IsCause : List KnownMember → Place → FindingKind → Cause → Type 0
+abbrev pub IsCause : List KnownMember → Place → FindingKind ℕ → FindingKind Conflict → Type 0
 IsCause ms Head kind c = IsHeadCause kind c
 IsCause ms (Member k) kind c = IsMemberCause ms k kind c
 
@@ -132,18 +131,18 @@ is_in_record a e =
     bit_and (flags_at e) 0x04 == 0x04 && (nat_le (u64_at 8 e) a && nat_lt (a - u64_at 8 e) 32)
 
 -- of a missing fence, whose completion record has the address: member 0 is entry `first`, and the later member entry `at`
-abbrev pub shared_records : List (List ℕ) → ℕ → ℕ → Cause → Records
-shared_records es first at (cause.MissingFence earlier h) = record {
-  earlier = is_in_record h.address (slice_index_or es (first + earlier) []);
-  later = is_in_record h.address (slice_index_or es at []);
+abbrev pub shared_records : List (List ℕ) → ℕ → ℕ → FindingKind Conflict → Records
+shared_records es first at (MissingFence conflict) = record {
+  earlier = is_in_record conflict.hazard.address (slice_index_or es (first + conflict.earlier) []);
+  later = is_in_record conflict.hazard.address (slice_index_or es at []);
 }
-shared_records es first at (cause.NotSeen why) = record { earlier = false; later = false }
-shared_records es first at (cause.GuardingFence earlier) = record { earlier = false; later = false }
-shared_records es first at (cause.SignallingFence awaited) = record { earlier = false; later = false }
-shared_records es first at (cause.GuardingAndSignallingFence earlier awaited) = record { earlier = false; later = false }
-shared_records es first at cause.NeedlessFence = record { earlier = false; later = false }
-shared_records es first at (cause.Repeated earlier) = record { earlier = false; later = false }
-shared_records es first at (cause.Flawed flaw) = record { earlier = false; later = false }
+shared_records es first at (NotSeen why) = record { earlier = false; later = false }
+shared_records es first at (GuardingFence earlier) = record { earlier = false; later = false }
+shared_records es first at (SignallingFence awaited) = record { earlier = false; later = false }
+shared_records es first at (GuardingAndSignallingFence earlier awaited) = record { earlier = false; later = false }
+shared_records es first at NeedlessFence = record { earlier = false; later = false }
+shared_records es first at (Repeated earlier) = record { earlier = false; later = false }
+shared_records es first at (Flawed flaw) = record { earlier = false; later = false }
 
 -- the span has a byte of the completion record at that address
 abbrev pub meets_record : ℕ → Span → Bool
@@ -179,15 +178,15 @@ flaw_record es first at (SmallBatch size) = 0
 flaw_record es first at FenceWithoutEffect = 0
 
 -- of a cause
-abbrev pub cause_record : List (List ℕ) → ℕ → ℕ → Cause → ℕ
-cause_record es first at (cause.MissingFence earlier h) = 0
-cause_record es first at (cause.NotSeen why) = 0
-cause_record es first at (cause.GuardingFence earlier) = 0
-cause_record es first at (cause.SignallingFence awaited) = 0
-cause_record es first at (cause.GuardingAndSignallingFence earlier awaited) = 0
-cause_record es first at cause.NeedlessFence = 0
-cause_record es first at (cause.Repeated earlier) = 0
-cause_record es first at (cause.Flawed flaw) = flaw_record es first at flaw
+abbrev pub cause_record : List (List ℕ) → ℕ → ℕ → FindingKind Conflict → ℕ
+cause_record es first at (MissingFence conflict) = 0
+cause_record es first at (NotSeen why) = 0
+cause_record es first at (GuardingFence earlier) = 0
+cause_record es first at (SignallingFence awaited) = 0
+cause_record es first at (GuardingAndSignallingFence earlier awaited) = 0
+cause_record es first at NeedlessFence = 0
+cause_record es first at (Repeated earlier) = 0
+cause_record es first at (Flawed flaw) = flaw_record es first at flaw
 
 -- of a missing fence, how many bytes of the two members conflict from the address on
 abbrev pub overlap_between : Hazard → Option KnownMember → Option KnownMember → ℕ
@@ -197,18 +196,19 @@ overlap_between h None (Some later) = 0
 overlap_between h None None = 0
 
 -- the same of what is found of member k
-abbrev pub overlap_of : List KnownMember → ℕ → Cause → ℕ
-overlap_of ms k (cause.MissingFence earlier h) = overlap_between h (slice_get ms earlier) (slice_get ms k)
-overlap_of ms k (cause.NotSeen why) = 0
-overlap_of ms k (cause.GuardingFence earlier) = 0
-overlap_of ms k (cause.SignallingFence awaited) = 0
-overlap_of ms k (cause.GuardingAndSignallingFence earlier awaited) = 0
-overlap_of ms k cause.NeedlessFence = 0
-overlap_of ms k (cause.Repeated earlier) = 0
-overlap_of ms k (cause.Flawed flaw) = 0
+abbrev pub overlap_of : List KnownMember → ℕ → FindingKind Conflict → ℕ
+overlap_of ms k (MissingFence conflict) =
+    overlap_between conflict.hazard (slice_get ms conflict.earlier) (slice_get ms k)
+overlap_of ms k (NotSeen why) = 0
+overlap_of ms k (GuardingFence earlier) = 0
+overlap_of ms k (SignallingFence awaited) = 0
+overlap_of ms k (GuardingAndSignallingFence earlier awaited) = 0
+overlap_of ms k NeedlessFence = 0
+overlap_of ms k (Repeated earlier) = 0
+overlap_of ms k (Flawed flaw) = 0
 
 -- and of a place; nothing conflicts with a batch's descriptor
-abbrev pub overlap_at : List KnownMember → Place → Cause → ℕ
+abbrev pub overlap_at : List KnownMember → Place → FindingKind Conflict → ℕ
 overlap_at ms Head c = 0
 overlap_at ms (Member k) c = overlap_of ms k c
 
@@ -218,7 +218,7 @@ no_hazards = record { read_after_write = false; write_after_write = false; write
 
 -- of a fence that is missing before member k these are all hazards with the earlier member; nothing else that is found of it
 -- has one
-abbrev pub AreHazardsOf : List KnownMember → ℕ → FindingKind → Hazards → Type 0
+abbrev pub AreHazardsOf : List KnownMember → ℕ → FindingKind ℕ → Hazards → Type 0
 AreHazardsOf ms k (MissingFence earlier) hs = AreHazardsBetween ms earlier k hs
 AreHazardsOf ms k (NotSeen why) hs = hs ≡ no_hazards
 AreHazardsOf ms k (GuardingFence earlier) hs = hs ≡ no_hazards
@@ -229,7 +229,7 @@ AreHazardsOf ms k (Repeated earlier) hs = hs ≡ no_hazards
 AreHazardsOf ms k (Flawed flaw) hs = hs ≡ no_hazards
 
 -- and of a place: what is found of a batch's descriptor has none
-abbrev pub AreHazardsAt : List KnownMember → Place → FindingKind → Hazards → Type 0
+abbrev pub AreHazardsAt : List KnownMember → Place → FindingKind ℕ → Hazards → Type 0
 AreHazardsAt ms Head kind hs = hs ≡ no_hazards
 AreHazardsAt ms (Member k) kind hs = AreHazardsOf ms k kind hs
 
@@ -294,12 +294,12 @@ IsRight (fence_place.Missing earlier) = ⊥
 -- ---- for private clauses
 
 -- of a missing fence the earlier member is before entry `at`
-abbrev pub IsAfter : ℕ → ℕ → Cause → Type 0
-IsAfter first at (cause.MissingFence earlier h) = first + earlier < at
-IsAfter first at (cause.NotSeen why) = Unit
-IsAfter first at (cause.GuardingFence earlier) = Unit
-IsAfter first at (cause.SignallingFence awaited) = Unit
-IsAfter first at (cause.GuardingAndSignallingFence earlier awaited) = Unit
-IsAfter first at cause.NeedlessFence = Unit
-IsAfter first at (cause.Repeated earlier) = Unit
-IsAfter first at (cause.Flawed flaw) = Unit
+abbrev pub IsAfter : ℕ → ℕ → FindingKind Conflict → Type 0
+IsAfter first at (MissingFence conflict) = first + conflict.earlier < at
+IsAfter first at (NotSeen why) = Unit
+IsAfter first at (GuardingFence earlier) = Unit
+IsAfter first at (SignallingFence awaited) = Unit
+IsAfter first at (GuardingAndSignallingFence earlier awaited) = Unit
+IsAfter first at NeedlessFence = Unit
+IsAfter first at (Repeated earlier) = Unit
+IsAfter first at (Flawed flaw) = Unit

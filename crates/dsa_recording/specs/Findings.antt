@@ -1,5 +1,5 @@
 -- What an audit of a recording finds (this project's choice).
-use Rattle.std.specs.Prelude.{ℕ, suc, zero, ◌≡◌, nat_lt, if◌then◌else◌, Bool, List, [], ◌∷◌, ◌++◌, Option, Some, None, length, get_or, true, false, not, ◌&&◌}
+use Rattle.std.specs.Prelude.{ℕ, suc, zero, ◌≡◌, nat_lt, if◌then◌else◌, Bool, List, [], ◌∷◌, ◌++◌, Option, Some, None, length, get_or}
 use Rattle.dsa_audit.specs.declared.member.Member.{Member as KnownMember}
 use Rattle.dsa_audit.specs.declared.member.Member.TheVariants as member
 use Rattle.dsa_audit.specs.declared.member.Unseen.TheVariants.{Operation}
@@ -16,26 +16,25 @@ use Rattle.dsa_recording.specs.declared.findings.Place.{Place}
 use Rattle.dsa_recording.specs.declared.findings.Place.TheVariants.{Head, Member}
 use Rattle.dsa_recording.specs.Flaws.{no_flaws}
 use Rattle.dsa_recording.specs.declared.submission.Audited.{Audited}
-use Rattle.dsa_recording.specs.declared.words.Denied.{Denied}
 
 -- whether a member is not looked at
-abbrev pub unseen_kind : KnownMember → Option FindingKind
+abbrev pub unseen_kind : KnownMember → Option (FindingKind ℕ)
 unseen_kind (member.Known touched) = None
 unseen_kind (member.Unknown why) = Some (NotSeen why)
 
 -- whether a fence is missing before the member
-abbrev pub missing_kind : FencePlace → Option FindingKind
+abbrev pub missing_kind : FencePlace → Option (FindingKind ℕ)
 missing_kind fence_place.NoFence = None
 missing_kind fence_place.Given = None
 missing_kind (fence_place.Missing earlier) = Some (MissingFence earlier)
 
 -- whether one is that is accepted
-abbrev pub accepted_kind : Option ℕ → Option FindingKind
+abbrev pub accepted_kind : Option ℕ → Option (FindingKind ℕ)
 accepted_kind None = None
 accepted_kind (Some earlier) = Some (MissingFence earlier)
 
 -- whether no conflict needs its fence, and what it is for then; that of a lone descriptor has no effect
-abbrev pub use_kind : Bool → FenceUse → Option FindingKind
+abbrev pub use_kind : Bool → FenceUse → Option (FindingKind ℕ)
 use_kind is_batch fence_use.NoFence = None
 use_kind is_batch fence_use.Needless = if is_batch then Some NeedlessFence else Some (Flawed FenceWithoutEffect)
 use_kind is_batch (fence_use.Guarding earlier) = Some (GuardingFence earlier)
@@ -45,31 +44,31 @@ use_kind is_batch fence_use.Held = None
 use_kind is_batch (fence_use.Needed earlier later) = None
 
 -- the member shares a record with an earlier one
-abbrev pub shared_kind : Option ℕ → Option FindingKind
+abbrev pub shared_kind : Option ℕ → Option (FindingKind ℕ)
 shared_kind None = None
 shared_kind (Some earlier) = Some (Flawed (SharedRecord earlier))
 
 -- the member does what an earlier one does
-abbrev pub repeated_kind : Option ℕ → Option FindingKind
+abbrev pub repeated_kind : Option ℕ → Option (FindingKind ℕ)
 repeated_kind None = None
 repeated_kind (Some earlier) = Some (Repeated earlier)
 
 -- a flaw that is there
-abbrev pub flaw_kind : Flaw → Bool → Option FindingKind
+abbrev pub flaw_kind : Flaw → Bool → Option (FindingKind ℕ)
 flaw_kind flaw is_there = if is_there then Some (Flawed flaw) else None
 
 -- a batch has at least two members (specification 341204, batch descriptor)
-abbrev pub size_kind : ℕ → Option FindingKind
+abbrev pub size_kind : ℕ → Option (FindingKind ℕ)
 size_kind size = flaw_kind (SmallBatch size) (nat_lt size 2)
 
 -- what may be found of the descriptor of a batch, in this order
-abbrev pub head_kinds : Audited → List (Option FindingKind)
+abbrev pub head_kinds : Audited → List (Option (FindingKind ℕ))
 head_kinds a =
     size_kind (length a.members.items) ∷ flaw_kind MisalignedRecord a.is_head_misaligned
     ∷ flaw_kind FenceWithoutEffect a.is_head_fenced ∷ []
 
 -- of member k, in this order
-abbrev pub member_kinds : Audited → ℕ → List (Option FindingKind)
+abbrev pub member_kinds : Audited → ℕ → List (Option (FindingKind ℕ))
 member_kinds a k =
     unseen_kind (get_or a.members.items k (member.Unknown Operation))
     ∷ shared_kind (get_or a.shared.items k None)
@@ -83,12 +82,12 @@ member_kinds a k =
     ∷ use_kind a.is_batch (get_or a.audit.reduced.uses.items k fence_use.NoFence) ∷ []
 
 -- the finding of a place, if there is one
-abbrev pub finding_of : ℕ → Place → Option FindingKind → List Finding
+abbrev pub finding_of : ℕ → Place → Option (FindingKind ℕ) → List Finding
 finding_of number place None = []
 finding_of number place (Some kind) = record { submission = number; place = place; kind = kind } ∷ []
 
 -- the findings of a place, in the order of the kinds
-abbrev pub all_found : ℕ → Place → List (Option FindingKind) → List Finding
+abbrev pub all_found : ℕ → Place → List (Option (FindingKind ℕ)) → List Finding
 all_found number place [] = []
 all_found number place (kind ∷ kinds) = finding_of number place kind ++ all_found number place kinds
 
@@ -118,16 +117,3 @@ pub record HasAll (a : Audited) : Type 0 where
   pub accepted : length a.audit.accepted.items ≡ length a.members.items
   pub places : length a.audit.corrected.places.items ≡ length a.members.items
   pub uses : length a.audit.reduced.uses.items ≡ length a.members.items
-
--- ---- which are errors
-
--- it is neither a missing fence nor a flaw, nor denied
-abbrev pub is_harmless : Denied → FindingKind → Bool
-is_harmless denied (NotSeen why) = not denied.unseen
-is_harmless denied (MissingFence earlier) = false
-is_harmless denied (GuardingFence earlier) = not denied.guarding
-is_harmless denied (SignallingFence awaited) = not denied.signalling
-is_harmless denied (GuardingAndSignallingFence earlier awaited) = not denied.guarding && not denied.signalling
-is_harmless denied NeedlessFence = not denied.needless
-is_harmless denied (Repeated earlier) = true
-is_harmless denied (Flawed flaw) = false

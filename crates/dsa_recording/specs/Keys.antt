@@ -2,8 +2,8 @@
 use Rattle.std.specs.Prelude.{ℕ, ◌+◌, ◌==◌, Bool, true, false, List, [], ◌∷◌, ◌++◌, codes, slice_get, if◌then◌else◌}
 use Rattle.dsa_audit.specs.declared.hazard.Hazards.{Hazards}
 use Rattle.dsa_recording.specs.declared.detail.Detail.{Detail}
-use Rattle.dsa_recording.specs.declared.detail.Cause.{Cause}
-use Rattle.dsa_recording.specs.declared.detail.Cause.TheVariants.{NotSeen, MissingFence, GuardingFence, SignallingFence, GuardingAndSignallingFence, NeedlessFence, Repeated, Flawed}
+use Rattle.dsa_recording.specs.declared.findings.FindingKind.{FindingKind}
+use Rattle.dsa_recording.specs.declared.findings.FindingKind.TheVariants.{NotSeen, MissingFence, GuardingFence, SignallingFence, GuardingAndSignallingFence, NeedlessFence, Repeated, Flawed}
 use Rattle.dsa_recording.specs.declared.findings.Flaw.{Flaw}
 use Rattle.dsa_recording.specs.declared.findings.Flaw.TheVariants.{SharedRecord, OverwritesBatch, DataOverRecord, MisalignedRecord, ReservedBytes, SmallBatch, FenceWithoutEffect}
 use Rattle.dsa_recording.specs.declared.findings.Place.{Place}
@@ -33,9 +33,9 @@ flaw_key (SmallBatch size) = codes "small batch"
 flaw_key FenceWithoutEffect = codes "fence without effect"
 
 -- what is found; of a missing fence with these hazards
-abbrev pub cause_key : ℕ → Hazards → Cause → List ℕ
+abbrev pub cause_key : {E : Type 0} → ℕ → Hazards → FindingKind E → List ℕ
 cause_key code hs (NotSeen why) = unseen_words why code
-cause_key code hs (MissingFence earlier hazard) = fence_words hs
+cause_key code hs (MissingFence conflict) = fence_words hs
 cause_key code hs (GuardingFence earlier) = codes "guarding fence"
 cause_key code hs (SignallingFence awaited) = codes "signalling fence"
 cause_key code hs (GuardingAndSignallingFence earlier awaited) = codes "guarding and signalling fence"

@@ -22,7 +22,7 @@ set_count a = count_by (λ b. b) a.fences.items
 -- ---- of a finding
 
 -- a member that is not looked at
-abbrev pub is_unseen : FindingKind → Bool
+abbrev pub is_unseen : FindingKind ℕ → Bool
 is_unseen (NotSeen why) = true
 is_unseen (MissingFence earlier) = false
 is_unseen (GuardingFence earlier) = false
@@ -33,7 +33,7 @@ is_unseen (Repeated earlier) = false
 is_unseen (Flawed flaw) = false
 
 -- a missing fence
-abbrev pub is_missing : FindingKind → Bool
+abbrev pub is_missing : FindingKind ℕ → Bool
 is_missing (NotSeen why) = false
 is_missing (MissingFence earlier) = true
 is_missing (GuardingFence earlier) = false
@@ -44,9 +44,9 @@ is_missing (Repeated earlier) = false
 is_missing (Flawed flaw) = false
 
 -- a needless fence
-abbrev pub is_needless : FindingKind → Bool
+abbrev pub is_needless : {E : Type 0} → FindingKind E → Bool
 is_needless (NotSeen why) = false
-is_needless (MissingFence earlier) = false
+is_needless (MissingFence conflict) = false
 is_needless (GuardingFence earlier) = false
 is_needless (SignallingFence awaited) = false
 is_needless (GuardingAndSignallingFence earlier awaited) = false
@@ -55,7 +55,7 @@ is_needless (Repeated earlier) = false
 is_needless (Flawed flaw) = false
 
 -- a fence that guards, or does both
-abbrev pub is_guarding : FindingKind → Bool
+abbrev pub is_guarding : FindingKind ℕ → Bool
 is_guarding (NotSeen why) = false
 is_guarding (MissingFence earlier) = false
 is_guarding (GuardingFence earlier) = true
@@ -66,7 +66,7 @@ is_guarding (Repeated earlier) = false
 is_guarding (Flawed flaw) = false
 
 -- a fence that signals, or does both
-abbrev pub is_signalling : FindingKind → Bool
+abbrev pub is_signalling : FindingKind ℕ → Bool
 is_signalling (NotSeen why) = false
 is_signalling (MissingFence earlier) = false
 is_signalling (GuardingFence earlier) = false
@@ -77,7 +77,7 @@ is_signalling (Repeated earlier) = false
 is_signalling (Flawed flaw) = false
 
 -- something wrong beside fences
-abbrev pub is_flaw : FindingKind → Bool
+abbrev pub is_flaw : FindingKind ℕ → Bool
 is_flaw (NotSeen why) = false
 is_flaw (MissingFence earlier) = false
 is_flaw (GuardingFence earlier) = false

@@ -15,11 +15,11 @@ use Rattle.dsa_recording.specs.declared.stream.Submission.{Submission}
 use Rattle.dsa_recording.specs.declared.submission.Audited.{Audited}
 use Rattle.dsa_recording.specs.Details.{IsDetail}
 use Rattle.dsa_recording.specs.EntryKeys.{fence_key}
-use Rattle.dsa_recording.specs.Findings.{is_harmless}
 use Rattle.dsa_recording.specs.Keys.{key_words}
 use Rattle.dsa_recording.specs.Pairs.{has_key}
 use Rattle.dsa_recording.specs.Reports.{Reported}
 use Rattle.dsa_recording.specs.Submissions.{members_in}
+use Rattle.dsa_recording.specs.Words.{is_error, severity_of}
 
 -- ---- keys that are used
 
@@ -45,7 +45,7 @@ TakesSomeOut es (s ∷ ss) (a ∷ audits) key = TakesOut (members_in es s) a key
 -- a finding with this key is an error, if the key is not accepted
 abbrev pub Excuses : AuditOptions → List (List ℕ) → Reported → Finding → List ℕ → Type 0
 Excuses options es r f key =
-    (is_harmless options.denied f.kind ≡ false) × ((d : Detail) × IsDetail es r f d × (key ≡ key_words es d))
+    (is_error (severity_of options.denied f.kind) ≡ true) × ((d : Detail) × IsDetail es r f d × (key ≡ key_words es d))
 
 -- some finding is
 abbrev pub ExcusesSome : AuditOptions → List (List ℕ) → Reported → List Finding → List ℕ → Type 0

@@ -5,8 +5,9 @@ use Rattle.dsa_audit.specs.declared.member.Unseen.TheVariants.{Blank, Operation,
 use Rattle.dsa_ranges.specs.declared.hazards.HazardKind.{HazardKind}
 use Rattle.dsa_ranges.specs.declared.hazards.HazardKind.TheVariants.{ReadAfterWrite, WriteAfterRead, WriteAfterWrite}
 use Rattle.dsa_recording.specs.declared.detail.Detail.{Detail}
-use Rattle.dsa_recording.specs.declared.detail.Cause.{Cause}
-use Rattle.dsa_recording.specs.declared.detail.Cause.TheVariants.{NotSeen, MissingFence, GuardingFence, SignallingFence, GuardingAndSignallingFence, NeedlessFence, Repeated, Flawed}
+use Rattle.dsa_recording.specs.declared.detail.Conflict.{Conflict}
+use Rattle.dsa_recording.specs.declared.findings.FindingKind.{FindingKind}
+use Rattle.dsa_recording.specs.declared.findings.FindingKind.TheVariants.{NotSeen, MissingFence, GuardingFence, SignallingFence, GuardingAndSignallingFence, NeedlessFence, Repeated, Flawed}
 use Rattle.dsa_lines.specs.Numbers.{hex}
 use Rattle.dsa_recording.specs.Details.{named_by}
 use Rattle.dsa_recording.specs.EntryWords.{bytes_words, descriptor_words, operation_words}
@@ -34,22 +35,29 @@ entry_words entry submission after = codes "entry " ++ (decimal entry ++ (codes 
 abbrev pub place_words : Detail → List ℕ
 place_words d = entry_words d.entry d.submission (member_words d.is_batch d.place)
 
--- ---- how severe: a missing fence is an error, and so is what is denied
+-- ---- how severe
 
 -- an error if it is denied
 abbrev pub note_unless : Bool → Severity
 note_unless denied = if denied then Error else Note
 
--- how severe each cause is
-abbrev pub severity_of : Denied → Cause → Severity
+-- how severe each kind of finding is; this alone decides what is an error: a missing fence, a flaw, and what is denied
+abbrev pub severity_of : {E : Type 0} → Denied → FindingKind E → Severity
 severity_of denied (NotSeen why) = if denied.unseen then Error else Warning
-severity_of denied (MissingFence earlier hazard) = Error
+severity_of denied (MissingFence conflict) = Error
 severity_of denied (GuardingFence earlier) = note_unless denied.guarding
 severity_of denied (SignallingFence awaited) = note_unless denied.signalling
 severity_of denied (GuardingAndSignallingFence earlier awaited) = note_unless (denied.guarding || denied.signalling)
 severity_of denied NeedlessFence = note_unless denied.needless
 severity_of denied (Repeated earlier) = Note
 severity_of denied (Flawed flaw) = Error
+
+-- it is an error
+abbrev pub is_error : Severity → Bool
+is_error Error = true
+is_error Warning = false
+is_error Note = false
+is_error Accepted = false
 
 -- what is accepted is no error
 abbrev pub severity_with : Bool → Severity → Severity
@@ -129,9 +137,10 @@ flaw_words (SmallBatch size) =
 flaw_words FenceWithoutEffect = codes "fence without effect: wait for earlier submissions in its place"
 
 -- `complete`: no fence of its submission is missing
-abbrev pub cause_words : Bool → ℕ → Cause → List ℕ
+abbrev pub cause_words : Bool → ℕ → FindingKind Conflict → List ℕ
 cause_words complete code (NotSeen why) = unseen_words why code
-cause_words complete code (MissingFence earlier hazard) = hazard_words hazard.kind earlier hazard.address
+cause_words complete code (MissingFence conflict) =
+    hazard_words conflict.hazard.kind conflict.earlier conflict.hazard.address
 cause_words complete code (GuardingFence earlier) = guarding_words earlier
 cause_words complete code (SignallingFence awaited) = signalling_words awaited
 cause_words complete code (GuardingAndSignallingFence earlier awaited) = both_words earlier awaited
@@ -176,9 +185,10 @@ flaw_place_words address (SmallBatch size) = []
 flaw_place_words address FenceWithoutEffect = []
 
 -- what is said after the cause
-abbrev pub more_words : Detail → Cause → List ℕ
+abbrev pub more_words : Detail → FindingKind Conflict → List ℕ
 more_words d (NotSeen why) = owners_words why d.owner d.head_owner
-more_words d (MissingFence earlier hazard) = overlap_words d.overlap ++ record_words d.records.earlier d.records.later (codes "member ") earlier
+more_words d (MissingFence conflict) =
+    overlap_words d.overlap ++ record_words d.records.earlier d.records.later (codes "member ") conflict.earlier
 more_words d (GuardingFence earlier) = []
 more_words d (SignallingFence awaited) = []
 more_words d (GuardingAndSignallingFence earlier awaited) = []

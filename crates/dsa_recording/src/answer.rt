@@ -13,14 +13,13 @@ ghost use Rattle.dsa_recording.specs.Words.{severity_of, severity_with};
 ghost use Rattle.dsa_recording.specs.Listings.{AreEntries};
 ghost use Rattle.dsa_recording.specs.Submissions.{IsWithin};
 ghost use Rattle.dsa_recording.specs.Totals.{HasSums};
-ghost use Rattle.dsa_recording.specs.Findings.{is_harmless};
 ghost use Rattle.dsa_recording.specs.Uses.{AreUsed};
 
 use crate::accepted::{Accepted, is_accepted};
 use crate::assumptions::Assumptions;
 use crate::detail::{Detail, detail_of, has_all_fences};
 use crate::entry::Header;
-use crate::findings::{Finding, FindingKind};
+use crate::findings::Finding;
 use crate::foreign::STAGING_HINT;
 use crate::keys::key_text;
 use crate::listing::listing_text;
@@ -29,7 +28,7 @@ use crate::report::{Report, audit_recording};
 use crate::stream::StreamFault;
 use crate::unwaited::MissingWait;
 use crate::uses::used_in;
-use crate::words::{Denied, Severity, severity_of, severity_with};
+use crate::words::{Denied, Severity, is_error, severity_of, severity_with};
 use crate::written::Written;
 use dsa_settings::Settings;
 use std::alloc::{AllocError, Global};
@@ -93,22 +92,6 @@ pub(crate) fn is_complete(complete: &[bool], submission: usize) -> bool {
     complete.get(submission).copied().unwrap_or(false)
 }
 
-/// Whether what was found is neither a missing fence nor a flaw, nor denied.
-pub(crate) fn is_harmless(denied: Denied, kind: FindingKind) -> bool
-    ensures { result ≡ is_harmless denied kind }
-{
-    match kind {
-        FindingKind::NotSeen(_) => !denied.unseen,
-        FindingKind::MissingFence(_) => false,
-        FindingKind::GuardingFence(_) => !denied.guarding,
-        FindingKind::SignallingFence(_) => !denied.signalling,
-        FindingKind::GuardingAndSignallingFence(_, _) => !denied.guarding && !denied.signalling,
-        FindingKind::NeedlessFence => !denied.needless,
-        FindingKind::Repeated(_) => true,
-        FindingKind::Flawed(_) => false,
-    }
-}
-
 /// Whether a finding of the report is no error.
 fn is_no_error(
     alloc: Global,
@@ -121,7 +104,7 @@ fn is_no_error(
     ensures { IfOk result (λ yes. IsTrue yes ↔
         IsNoError options.entry all.now (reported_by report.now) finding) }
 {
-    if is_harmless(options.denied, finding.kind) {
+    if !is_error(severity_of(options.denied, finding.kind)) {
         return Ok(true);
     }
     is_accepted(alloc, options.accepted, all, report, finding)

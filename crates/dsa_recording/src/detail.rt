@@ -20,25 +20,13 @@ use dsa_audit::{FencePlace, Hazards, Member, Unseen, hazard_between, hazards_bet
 use dsa_descriptor::{FlagWord, Span};
 use dsa_ranges::Hazard;
 
-/// What is found of an entry.
-#[derive(Clone, Copy, PartialEq, Eq)]
-pub enum Cause {
-    /// It is not looked at, for this reason.
-    NotSeen(Unseen),
-    /// A fence is missing before it: it conflicts with this earlier member, as the hazard says.
-    MissingFence(usize, Hazard),
-    /// No conflict needs the fence before it, but it is the first after this earlier member, which can fail.
-    GuardingFence(usize),
-    /// No conflict needs the fence before it, but this member waits for it and can be seen to have ended.
-    SignallingFence(usize),
-    /// Both: the earlier member that can fail, and the one that waits.
-    GuardingAndSignallingFence(usize, usize),
-    /// The fence before it may go, once the missing ones of its batch are set.
-    NeedlessFence,
-    /// The member does what this earlier one does, and neither reads what the other writes.
-    Repeated(usize),
-    /// Something beside fences is wrong.
-    Flawed(Flaw),
+/// The conflict that needs a missing fence.
+#[derive(Clone, Copy)]
+pub struct Conflict {
+    /// The earlier member.
+    pub earlier: usize,
+    /// The hazard between that and the later one.
+    pub hazard: Hazard,
 }
 
 /// Whose completion record has the address of a conflict.
@@ -72,7 +60,7 @@ pub struct Detail {
     /// Those of its submission's descriptor.
     pub head_owner: u32,
     /// What is found.
-    pub cause: Cause,
+    pub cause: FindingKind<Conflict>,
     /// Of a missing fence, whose completion record has the address; else none has.
     pub records: Records,
     /// Of a missing fence, all hazards between the two members; else none.
@@ -84,23 +72,23 @@ pub struct Detail {
 }
 
 /// The other members that a cause names.
-pub(crate) fn named_by(cause: Cause) -> ArrayVec<usize, 2>
+pub(crate) fn named_by(cause: FindingKind<Conflict>) -> ArrayVec<usize, 2>
     ensures { result.items ≡ named_by cause }
 {
     let mut members = ArrayVec::new();
     match cause {
-        Cause::MissingFence(member, _)
-        | Cause::GuardingFence(member)
-        | Cause::SignallingFence(member)
-        | Cause::Repeated(member)
-        | Cause::Flawed(Flaw::SharedRecord(member)) => members.push(member),
-        Cause::GuardingAndSignallingFence(earlier, awaited) => {
+        FindingKind::MissingFence(conflict) => members.push(conflict.earlier),
+        FindingKind::GuardingFence(member)
+        | FindingKind::SignallingFence(member)
+        | FindingKind::Repeated(member)
+        | FindingKind::Flawed(Flaw::SharedRecord(member)) => members.push(member),
+        FindingKind::GuardingAndSignallingFence(earlier, awaited) => {
             members.push(earlier);
             members.push(awaited);
         }
-        Cause::NotSeen(_)
-        | Cause::NeedlessFence
-        | Cause::Flawed(
+        FindingKind::NotSeen(_)
+        | FindingKind::NeedlessFence
+        | FindingKind::Flawed(
             Flaw::OverwritesBatch
             | Flaw::DataOverRecord
             | Flaw::MisalignedRecord
@@ -132,19 +120,23 @@ fn is_flaw_at(place: Place, flaw: Flaw) -> bool
 }
 
 /// What is found of a member, with the hazard of a missing fence.
-fn member_cause(operands: &[Member], member: usize, kind: FindingKind) -> Option<Cause>
+fn member_cause(
+    operands: &[Member],
+    member: usize,
+    kind: FindingKind<usize>,
+) -> Option<FindingKind<Conflict>>
     ensures cause { MatchOption result (¬ IsOfMember operands.now member kind)
         (IsMemberCause operands.now member kind) }
     ensures after { IfSome result (IsAfter 0 member) }
 {
     match kind {
-        FindingKind::NotSeen(why) => Some(Cause::NotSeen(why)),
+        FindingKind::NotSeen(why) => Some(FindingKind::NotSeen(why)),
         FindingKind::MissingFence(earlier) => {
             if earlier >= member || member >= operands.len() {
                 return None;
             }
             match hazard_between(operands, earlier, member) {
-                Some(hazard) => Some(Cause::MissingFence(earlier, hazard)),
+                Some(hazard) => Some(FindingKind::MissingFence(Conflict { earlier, hazard })),
                 None => None,
             }
         }
@@ -152,38 +144,38 @@ fn member_cause(operands: &[Member], member: usize, kind: FindingKind) -> Option
             if earlier >= member {
                 return None;
             }
-            Some(Cause::GuardingFence(earlier))
+            Some(FindingKind::GuardingFence(earlier))
         }
         FindingKind::SignallingFence(awaited) => {
             if awaited < member || awaited >= operands.len() {
                 return None;
             }
-            Some(Cause::SignallingFence(awaited))
+            Some(FindingKind::SignallingFence(awaited))
         }
         FindingKind::GuardingAndSignallingFence(earlier, awaited) => {
             if earlier >= member || awaited < member || awaited >= operands.len() {
                 return None;
             }
-            Some(Cause::GuardingAndSignallingFence(earlier, awaited))
+            Some(FindingKind::GuardingAndSignallingFence(earlier, awaited))
         }
-        FindingKind::NeedlessFence => Some(Cause::NeedlessFence),
+        FindingKind::NeedlessFence => Some(FindingKind::NeedlessFence),
         FindingKind::Repeated(earlier) => {
             if earlier >= member {
                 return None;
             }
-            Some(Cause::Repeated(earlier))
+            Some(FindingKind::Repeated(earlier))
         }
         FindingKind::Flawed(flaw) => {
             if !is_flaw_at(Place::Member(member), flaw) {
                 return None;
             }
-            Some(Cause::Flawed(flaw))
+            Some(FindingKind::Flawed(flaw))
         }
     }
 }
 
 /// What is found of a batch's descriptor, which can only be a flaw.
-fn head_cause(kind: FindingKind) -> Option<Cause>
+fn head_cause(kind: FindingKind<usize>) -> Option<FindingKind<Conflict>>
     ensures { MatchOption result (¬ IsOfHead kind) (IsHeadCause kind) }
 {
     match kind {
@@ -191,7 +183,7 @@ fn head_cause(kind: FindingKind) -> Option<Cause>
             if !is_flaw_at(Place::Head, flaw) {
                 return None;
             }
-            Some(Cause::Flawed(flaw))
+            Some(FindingKind::Flawed(flaw))
         }
         FindingKind::NotSeen(_)
         | FindingKind::MissingFence(_)
@@ -216,23 +208,28 @@ pub fn is_in_record(entry: &[u8; 64], address: u64) -> bool
 
 /// Of a missing fence, whose completion record has the address: the submission's first member is entry `first`, and the
 /// later member is entry `at`.
-fn shared_records(all: &[[u8; 64]], first: usize, at: usize, cause: Cause) -> Records
+fn shared_records(
+    all: &[[u8; 64]],
+    first: usize,
+    at: usize,
+    cause: FindingKind<Conflict>,
+) -> Records
     requires within { at < length all.now }
     requires earlier { IsAfter first at cause }
     ensures { result ≡ shared_records all.now first at cause }
 {
     match cause {
-        Cause::MissingFence(earlier, hazard) => Records {
+        FindingKind::MissingFence(Conflict { earlier, hazard }) => Records {
             earlier: is_in_record(&all[first + earlier], hazard.address),
             later: is_in_record(&all[at], hazard.address),
         },
-        Cause::NotSeen(_)
-        | Cause::GuardingFence(_)
-        | Cause::SignallingFence(_)
-        | Cause::GuardingAndSignallingFence(_, _)
-        | Cause::NeedlessFence
-        | Cause::Repeated(_)
-        | Cause::Flawed(_) => Records {
+        FindingKind::NotSeen(_)
+        | FindingKind::GuardingFence(_)
+        | FindingKind::SignallingFence(_)
+        | FindingKind::GuardingAndSignallingFence(_, _)
+        | FindingKind::NeedlessFence
+        | FindingKind::Repeated(_)
+        | FindingKind::Flawed(_) => Records {
             earlier: false,
             later: false,
         },
@@ -307,19 +304,19 @@ fn flaw_record(all: &[[u8; 64]], first: usize, at: usize, flaw: Flaw) -> u64
 }
 
 /// The same of a cause.
-fn cause_record(all: &[[u8; 64]], first: usize, at: usize, cause: Cause) -> u64
+fn cause_record(all: &[[u8; 64]], first: usize, at: usize, cause: FindingKind<Conflict>) -> u64
     requires { at < length all.now }
     ensures { result ≡ cause_record all.now first at cause }
 {
     match cause {
-        Cause::Flawed(flaw) => flaw_record(all, first, at, flaw),
-        Cause::MissingFence(_, _)
-        | Cause::NotSeen(_)
-        | Cause::GuardingFence(_)
-        | Cause::SignallingFence(_)
-        | Cause::GuardingAndSignallingFence(_, _)
-        | Cause::NeedlessFence
-        | Cause::Repeated(_) => 0,
+        FindingKind::Flawed(flaw) => flaw_record(all, first, at, flaw),
+        FindingKind::MissingFence(_)
+        | FindingKind::NotSeen(_)
+        | FindingKind::GuardingFence(_)
+        | FindingKind::SignallingFence(_)
+        | FindingKind::GuardingAndSignallingFence(_, _)
+        | FindingKind::NeedlessFence
+        | FindingKind::Repeated(_) => 0,
     }
 }
 
@@ -335,7 +332,7 @@ fn no_hazards() -> Hazards
 }
 
 /// Of a fence that is missing before the member, all hazards with the earlier one.
-fn hazards_of(operands: &[Member], member: usize, kind: FindingKind) -> Hazards
+fn hazards_of(operands: &[Member], member: usize, kind: FindingKind<usize>) -> Hazards
     ensures { AreHazardsOf operands.now member kind result }
 {
     match kind {
@@ -351,23 +348,23 @@ fn hazards_of(operands: &[Member], member: usize, kind: FindingKind) -> Hazards
 }
 
 /// Of a missing fence before the member, how many bytes conflict from the address on.
-fn overlap_of(operands: &[Member], member: usize, cause: Cause) -> u64
+fn overlap_of(operands: &[Member], member: usize, cause: FindingKind<Conflict>) -> u64
     ensures { result ≡ overlap_of operands.now member cause }
 {
     match cause {
-        Cause::MissingFence(earlier, hazard) => {
+        FindingKind::MissingFence(Conflict { earlier, hazard }) => {
             match (operands.get(earlier), operands.get(member)) {
                 (Some(earlier), Some(later)) => overlap(hazard, earlier, later),
                 (Some(_) | None, Some(_) | None) => 0,
             }
         }
-        Cause::NotSeen(_)
-        | Cause::GuardingFence(_)
-        | Cause::SignallingFence(_)
-        | Cause::GuardingAndSignallingFence(_, _)
-        | Cause::NeedlessFence
-        | Cause::Repeated(_)
-        | Cause::Flawed(_) => 0,
+        FindingKind::NotSeen(_)
+        | FindingKind::GuardingFence(_)
+        | FindingKind::SignallingFence(_)
+        | FindingKind::GuardingAndSignallingFence(_, _)
+        | FindingKind::NeedlessFence
+        | FindingKind::Repeated(_)
+        | FindingKind::Flawed(_) => 0,
     }
 }
 
@@ -376,7 +373,7 @@ fn head_detail(
     all: &[[u8; 64]],
     submission: Submission,
     number: usize,
-    kind: FindingKind,
+    kind: FindingKind<usize>,
 ) -> Option<Detail>
     ensures { (ms : List Member) → MatchOption result
         (¬ HasEntry all.now submission ms (finding_at number Place.Head kind))
@@ -418,7 +415,7 @@ fn member_detail(
     operands: &[Member],
     number: usize,
     member: usize,
-    kind: FindingKind,
+    kind: FindingKind<usize>,
 ) -> Option<Detail>
     ensures { MatchOption result
         (¬ HasEntry all.now submission operands.now (finding_at number (Place.Member member) kind))

@@ -8,7 +8,7 @@ use dsa_audit::{FencePlace, FenceUse, Member, Unseen};
 use std::alloc::{AllocError, Global};
 
 /// What is wrong beside fences.
-#[derive(Clone, Copy, PartialEq, Eq)]
+#[derive(Clone, Copy)]
 pub enum Flaw {
     /// The completion record of the member, or its data, meets the record of this earlier one; or its record meets
     /// data of that.
@@ -27,13 +27,14 @@ pub enum Flaw {
     FenceWithoutEffect,
 }
 
-/// What is found.
+/// What is found of an entry. Of a missing fence it has an `E`: the number of the earlier member in a report, and that
+/// with the hazard where its detail is known.
 #[derive(Clone, Copy)]
-pub enum FindingKind {
-    /// The member is not looked at, for this reason.
+pub enum FindingKind<E> {
+    /// It is not looked at, for this reason.
     NotSeen(Unseen),
-    /// A fence is missing before the member: it conflicts with this earlier one.
-    MissingFence(usize),
+    /// A fence is missing before it: it conflicts with this earlier member.
+    MissingFence(E),
     /// No conflict needs the fence before it, but it is the first after this earlier member, which can fail.
     GuardingFence(usize),
     /// No conflict needs the fence before it, but this member waits for it and can be seen to have ended.
@@ -65,11 +66,11 @@ pub struct Finding {
     /// What of it.
     pub place: Place,
     /// What is found.
-    pub kind: FindingKind,
+    pub kind: FindingKind<usize>,
 }
 
 /// Why a member is not looked at.
-fn unseen_kind(member: &Member) -> Option<FindingKind>
+fn unseen_kind(member: &Member) -> Option<FindingKind<usize>>
     ensures { result ≡ unseen_kind member.now }
 {
     match member {
@@ -79,7 +80,7 @@ fn unseen_kind(member: &Member) -> Option<FindingKind>
 }
 
 /// Whether a fence is missing.
-fn missing_kind(place: FencePlace) -> Option<FindingKind>
+fn missing_kind(place: FencePlace) -> Option<FindingKind<usize>>
     ensures { result ≡ missing_kind place }
 {
     match place {
@@ -89,7 +90,7 @@ fn missing_kind(place: FencePlace) -> Option<FindingKind>
 }
 
 /// Whether a missing fence is accepted.
-fn accepted_kind(accepted: Option<usize>) -> Option<FindingKind>
+fn accepted_kind(accepted: Option<usize>) -> Option<FindingKind<usize>>
     ensures { result ≡ accepted_kind accepted }
 {
     match accepted {
@@ -99,7 +100,7 @@ fn accepted_kind(accepted: Option<usize>) -> Option<FindingKind>
 }
 
 /// Whether a fence is needless, or what it is for though no conflict needs it. That of a lone descriptor has no effect.
-fn use_kind(is_batch: bool, fence: FenceUse) -> Option<FindingKind>
+fn use_kind(is_batch: bool, fence: FenceUse) -> Option<FindingKind<usize>>
     ensures { result ≡ use_kind is_batch fence }
 {
     match fence {
@@ -120,7 +121,7 @@ fn use_kind(is_batch: bool, fence: FenceUse) -> Option<FindingKind>
 }
 
 /// Whether a member shares a record with an earlier one.
-fn shared_kind(shared: Option<usize>) -> Option<FindingKind>
+fn shared_kind(shared: Option<usize>) -> Option<FindingKind<usize>>
     ensures { result ≡ shared_kind shared }
 {
     match shared {
@@ -130,7 +131,7 @@ fn shared_kind(shared: Option<usize>) -> Option<FindingKind>
 }
 
 /// Whether a member does what an earlier one does.
-fn repeated_kind(repeated: Option<usize>) -> Option<FindingKind>
+fn repeated_kind(repeated: Option<usize>) -> Option<FindingKind<usize>>
     ensures { result ≡ repeated_kind repeated }
 {
     match repeated {
@@ -140,7 +141,7 @@ fn repeated_kind(repeated: Option<usize>) -> Option<FindingKind>
 }
 
 /// The flaw, if it is there.
-fn flaw_kind(flaw: Flaw, is_there: bool) -> Option<FindingKind>
+fn flaw_kind(flaw: Flaw, is_there: bool) -> Option<FindingKind<usize>>
     ensures { result ≡ flaw_kind flaw is_there }
 {
     if is_there {
@@ -151,14 +152,14 @@ fn flaw_kind(flaw: Flaw, is_there: bool) -> Option<FindingKind>
 }
 
 /// Whether a batch has fewer than two members.
-fn size_kind(size: usize) -> Option<FindingKind>
+fn size_kind(size: usize) -> Option<FindingKind<usize>>
     ensures { result ≡ size_kind size }
 {
     flaw_kind(Flaw::SmallBatch(size), size < 2)
 }
 
 /// What may be found of a batch's descriptor, in this order.
-fn head_kinds(audited: &Audited) -> [Option<FindingKind>; 3]
+fn head_kinds(audited: &Audited) -> [Option<FindingKind<usize>>; 3]
     ensures { result ≡ head_kinds audited.now }
 {
     [
@@ -169,7 +170,7 @@ fn head_kinds(audited: &Audited) -> [Option<FindingKind>; 3]
 }
 
 /// What may be found of a member, in this order.
-fn member_kinds(audited: &Audited, k: usize) -> [Option<FindingKind>; 10]
+fn member_kinds(audited: &Audited, k: usize) -> [Option<FindingKind<usize>>; 10]
     requires all { HasAll audited.now }
     requires within { k < length audited.now.members.items }
     ensures { result ≡ member_kinds audited.now k }
@@ -194,7 +195,7 @@ fn push_finding(
     findings: &mut Vec<Finding>,
     submission: usize,
     place: Place,
-    found: Option<FindingKind>,
+    found: Option<FindingKind<usize>>,
 ) -> Result<(), AllocError>
     ensures { OnOk result
         (findings.new.items ≡ findings.old.items ++ finding_of submission place found) }
@@ -215,7 +216,7 @@ fn push_kinds(
     findings: &mut Vec<Finding>,
     submission: usize,
     place: Place,
-    kinds: &[Option<FindingKind>],
+    kinds: &[Option<FindingKind<usize>>],
 ) -> Result<(), AllocError>
     ensures { OnOk result (findings.new.items ≡
         findings.old.items ++ all_found submission place kinds.now) }

@@ -55,7 +55,7 @@ pub struct Freed {
 }
 
 /// Whether a kind of finding is a needless fence.
-fn is_needless(kind: FindingKind) -> bool
+pub(crate) fn is_needless<E: Copy>(kind: FindingKind<E>) -> bool
     ensures { result ≡ is_needless kind }
 {
     match kind {
@@ -187,7 +187,7 @@ fn needless_under(
 }
 
 /// Whether no conflict needs the fence that was found, and it stays.
-fn is_kept(kind: FindingKind) -> bool {
+fn is_kept(kind: FindingKind<usize>) -> bool {
     match kind {
         FindingKind::GuardingFence(_)
         | FindingKind::SignallingFence(_)

@@ -6,10 +6,10 @@ ghost use Rattle.dsa_recording.specs.Furthers.{code_name};
 ghost use Rattle.dsa_recording.specs.EntryKeys.{asked_name, batch_key, entry_key, fence_front, fence_key, fence_words, hazard_names, key_of_entry, member_key, name_or_code, operation_name};
 ghost use Rattle.dsa_recording.specs.Keys.{cause_key, flaw_key, key_words, other_key, others_key, place_key};
 
-use crate::detail::{Cause, Detail, named_by};
+use crate::detail::{Detail, named_by};
 use crate::entry::Header;
 use crate::entry_words::operation_text;
-use crate::findings::{Flaw, Place};
+use crate::findings::{FindingKind, Flaw, Place};
 use crate::further::code_name;
 use crate::stream::Submission;
 use crate::words::unseen_text;
@@ -247,20 +247,25 @@ fn flaw_key(flaw: Flaw) -> &'static str
 }
 
 /// What is found; of a missing fence with these hazards.
-fn cause_key(alloc: Global, code: u8, hazards: Hazards, cause: Cause) -> Result<String, AllocError>
-    ensures { IfOk result (λ s. string_bytes s ≡ cause_key code hazards cause) }
+fn cause_key<E: Copy>(
+    alloc: Global,
+    code: u8,
+    hazards: Hazards,
+    kind: FindingKind<E>,
+) -> Result<String, AllocError>
+    ensures { IfOk result (λ s. string_bytes s ≡ cause_key code hazards kind) }
 {
-    match cause {
-        Cause::NotSeen(why) => unseen_text(alloc, why, code),
-        Cause::MissingFence(_, _) => fence_words(alloc, hazards),
-        Cause::GuardingFence(_) => String::from_str(alloc, "guarding fence"),
-        Cause::SignallingFence(_) => String::from_str(alloc, "signalling fence"),
-        Cause::GuardingAndSignallingFence(_, _) => {
+    match kind {
+        FindingKind::NotSeen(why) => unseen_text(alloc, why, code),
+        FindingKind::MissingFence(_) => fence_words(alloc, hazards),
+        FindingKind::GuardingFence(_) => String::from_str(alloc, "guarding fence"),
+        FindingKind::SignallingFence(_) => String::from_str(alloc, "signalling fence"),
+        FindingKind::GuardingAndSignallingFence(_, _) => {
             String::from_str(alloc, "guarding and signalling fence")
         }
-        Cause::NeedlessFence => String::from_str(alloc, "needless fence"),
-        Cause::Repeated(_) => String::from_str(alloc, "repeated operation"),
-        Cause::Flawed(flaw) => String::from_str(alloc, flaw_key(flaw)),
+        FindingKind::NeedlessFence => String::from_str(alloc, "needless fence"),
+        FindingKind::Repeated(_) => String::from_str(alloc, "repeated operation"),
+        FindingKind::Flawed(flaw) => String::from_str(alloc, flaw_key(flaw)),
     }
 }
 

@@ -46,7 +46,7 @@ pub use accepted::Accepted;
 pub use answer::{AuditAnswer, AuditFormat, AuditOptions};
 pub use assumptions::{Assumptions, Await};
 pub use costs::{Costs, costs_of, costs_text};
-pub use detail::{Cause, Detail, Records, detail_of, has_all_fences, is_in_record};
+pub use detail::{Conflict, Detail, Records, detail_of, has_all_fences, is_in_record};
 pub use dumps::{Dump, StagingFault, stage};
 pub use entry::{Header, RECORD_REQUESTED};
 pub use entry_words::{bytes_text, descriptor_text};

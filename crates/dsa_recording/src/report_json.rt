@@ -2,15 +2,15 @@
 
 use crate::answer::{AuditOptions, severity_in};
 use crate::assumptions::Assumptions;
-use crate::detail::{Cause, Detail, named_by};
+use crate::detail::{Conflict, Detail, named_by};
 use crate::entry_words::descriptor_text;
-use crate::findings::{Flaw, Place};
+use crate::findings::{FindingKind, Flaw, Place};
 use crate::keys::key_text;
 use crate::sums::Sums;
 use crate::words::Severity;
 use crate::written::Before;
 use dsa_audit::Unseen;
-use dsa_ranges::{Hazard, HazardKind};
+use dsa_ranges::HazardKind;
 use serde::Serialize;
 use std::alloc::{AllocError, Global};
 
@@ -157,9 +157,9 @@ fn records_of(alloc: Global, detail: &Detail, earlier: usize) -> Result<Vec<u64>
 fn hazard_object(
     alloc: Global,
     detail: &Detail,
-    earlier: usize,
-    hazard: Hazard,
+    conflict: Conflict,
 ) -> Result<CauseObject, AllocError> {
+    let Conflict { earlier, hazard } = conflict;
     let records = records_of(alloc, detail, earlier)?;
     let address = hazard.address;
     Ok(CauseObject::Missing {
@@ -235,30 +235,32 @@ fn flaw_object(alloc: Global, record_at: u64, flaw: Flaw) -> Result<CauseObject,
 /// What was found, and why; `complete`: no fence of its submission is missing.
 fn cause_object(alloc: Global, detail: &Detail, complete: bool) -> Result<CauseObject, AllocError> {
     match detail.cause {
-        Cause::NotSeen(why) => Ok(unseen_object(detail, why)),
-        Cause::MissingFence(earlier, hazard) => hazard_object(alloc, detail, earlier, hazard),
-        Cause::GuardingFence(earlier) => Ok(CauseObject::Earlier {
+        FindingKind::NotSeen(why) => Ok(unseen_object(detail, why)),
+        FindingKind::MissingFence(conflict) => hazard_object(alloc, detail, conflict),
+        FindingKind::GuardingFence(earlier) => Ok(CauseObject::Earlier {
             earlier: earlier as u64,
             kind: "guarding",
         }),
-        Cause::SignallingFence(awaited) => Ok(CauseObject::Awaited {
+        FindingKind::SignallingFence(awaited) => Ok(CauseObject::Awaited {
             awaited: awaited as u64,
             kind: "signalling",
         }),
-        Cause::GuardingAndSignallingFence(earlier, awaited) => Ok(CauseObject::EarlierAndAwaited {
-            awaited: awaited as u64,
-            earlier: earlier as u64,
-            kind: "guarding and signalling",
-        }),
-        Cause::NeedlessFence => Ok(CauseObject::Needless {
+        FindingKind::GuardingAndSignallingFence(earlier, awaited) => Ok(
+            CauseObject::EarlierAndAwaited {
+                awaited: awaited as u64,
+                earlier: earlier as u64,
+                kind: "guarding and signalling",
+            },
+        ),
+        FindingKind::NeedlessFence => Ok(CauseObject::Needless {
             kind: "needless",
             once_corrected: !complete,
         }),
-        Cause::Repeated(earlier) => Ok(CauseObject::Earlier {
+        FindingKind::Repeated(earlier) => Ok(CauseObject::Earlier {
             earlier: earlier as u64,
             kind: "repeated operation",
         }),
-        Cause::Flawed(flaw) => flaw_object(alloc, detail.record_at, flaw),
+        FindingKind::Flawed(flaw) => flaw_object(alloc, detail.record_at, flaw),
     }
 }
 

@@ -15,13 +15,14 @@ ghost use Rattle.dsa_recording.specs.Submissions.{IsWithin};
 ghost use Rattle.dsa_recording.specs.Uses.{AddsKeys, AreUsed, Excuses, ExcusesSome, IsEpochBefore, IsEpochOf, IsUsed, NeedFence, TakesAcceptedOut, TakesBelowOut, TakesFirstOut, TakesLaterOut, TakesPairOut, TakesSomeOut};
 
 use crate::accepted::Accepted;
-use crate::answer::{AuditOptions, is_harmless};
+use crate::answer::AuditOptions;
 use crate::detail::{are_right, detail_of};
 use crate::findings::Finding;
 use crate::keys::{fence_key, key_text};
 use crate::pairs::named_with;
 use crate::report::Report;
 use crate::submission::Audited;
+use crate::words::{is_error, severity_of};
 use dsa_audit::{OrderedConflicts, Relation, all_lasts, hazards_between};
 use std::alloc::{AllocError, Global};
 
@@ -222,7 +223,7 @@ fn use_finding(
         × Excuses options.entry all.now (reported_by report.now) finding key)
         used.old used.new) }
 {
-    if is_harmless(options.denied, finding.kind) {
+    if !is_error(severity_of(options.denied, finding.kind)) {
         return Ok(());
     }
     let Some(detail) = detail_of(all, report, finding) else {

@@ -5,12 +5,12 @@ ghost use Rattle.dsa_recording.specs.declared.detail.Detail.{Detail};
 ghost use Rattle.dsa_recording.specs.declared.findings.Place.TheVariants as Place;
 ghost use Rattle.dsa_recording.specs.Details.{named_by};
 ghost use Rattle.dsa_recording.specs.EntryWords.{operation_words};
-ghost use Rattle.dsa_recording.specs.Words.{entry_words, member_words, place_words, note_unless, severity_of, severity_with, severity_words, unseen_words, hazard_words, guarding_words, signalling_words, both_words, repeated_words, refused_words, flaw_words, flaw_place_words, needless_words, cause_words, privilege_words, owners_words, record_words, overlap_words, more_words, entry_line, other_line, other_lines, finding_line, finding_words};
+ghost use Rattle.dsa_recording.specs.Words.{entry_words, member_words, place_words, note_unless, severity_of, is_error, severity_with, severity_words, unseen_words, hazard_words, guarding_words, signalling_words, both_words, repeated_words, refused_words, flaw_words, flaw_place_words, needless_words, cause_words, privilege_words, owners_words, record_words, overlap_words, more_words, entry_line, other_line, other_lines, finding_line, finding_words};
 ghost use Rattle.dsa_audit.specs.declared.member.Unseen.TheVariants.{Owner};
 
-use crate::detail::{Cause, Detail, Records, named_by};
+use crate::detail::{Conflict, Detail, Records, named_by};
 use crate::entry_words::{bytes_text, descriptor_text, operation_text};
-use crate::findings::{Flaw, Place};
+use crate::findings::{FindingKind, Flaw, Place};
 use dsa_audit::Unseen;
 use dsa_ranges::{Hazard, HazardKind};
 use std::alloc::{AllocError, Global};
@@ -54,27 +54,38 @@ fn note_unless(denied: bool) -> Severity
     }
 }
 
-/// How severe it is that this was found.
-pub fn severity_of(denied: Denied, cause: Cause) -> Severity
-    ensures { result ≡ severity_of denied cause }
+/// How severe it is that this was found. This alone decides what is an error: a missing fence, a flaw, and what is
+/// denied.
+pub fn severity_of<E: Copy>(denied: Denied, kind: FindingKind<E>) -> Severity
+    ensures { result ≡ severity_of denied kind }
 {
-    match cause {
-        Cause::NotSeen(_) => {
+    match kind {
+        FindingKind::NotSeen(_) => {
             if denied.unseen {
                 Severity::Error
             } else {
                 Severity::Warning
             }
         }
-        Cause::MissingFence(_, _) => Severity::Error,
-        Cause::GuardingFence(_) => note_unless(denied.guarding),
-        Cause::SignallingFence(_) => note_unless(denied.signalling),
-        Cause::GuardingAndSignallingFence(_, _) => {
+        FindingKind::MissingFence(_) => Severity::Error,
+        FindingKind::GuardingFence(_) => note_unless(denied.guarding),
+        FindingKind::SignallingFence(_) => note_unless(denied.signalling),
+        FindingKind::GuardingAndSignallingFence(_, _) => {
             note_unless(denied.guarding || denied.signalling)
         }
-        Cause::NeedlessFence => note_unless(denied.needless),
-        Cause::Repeated(_) => Severity::Note,
-        Cause::Flawed(_) => Severity::Error,
+        FindingKind::NeedlessFence => note_unless(denied.needless),
+        FindingKind::Repeated(_) => Severity::Note,
+        FindingKind::Flawed(_) => Severity::Error,
+    }
+}
+
+/// Whether this is an error.
+pub(crate) fn is_error(severity: Severity) -> bool
+    ensures { result ≡ is_error severity }
+{
+    match severity {
+        Severity::Error => true,
+        Severity::Warning | Severity::Note | Severity::Accepted => false,
     }
 }
 
@@ -292,14 +303,18 @@ fn cause_text(alloc: Global, detail: &Detail, complete: bool) -> Result<String, 
         cause_words complete detail.now.code detail.now.cause) }
 {
     match detail.cause {
-        Cause::NotSeen(why) => unseen_text(alloc, why, detail.code),
-        Cause::MissingFence(earlier, hazard) => hazard_text(alloc, earlier, hazard),
-        Cause::GuardingFence(earlier) => guarding_text(alloc, earlier),
-        Cause::SignallingFence(awaited) => signalling_text(alloc, awaited),
-        Cause::GuardingAndSignallingFence(earlier, awaited) => both_text(alloc, earlier, awaited),
-        Cause::NeedlessFence => needless_text(alloc, complete),
-        Cause::Repeated(earlier) => repeated_text(alloc, earlier),
-        Cause::Flawed(flaw) => flaw_text(alloc, flaw),
+        FindingKind::NotSeen(why) => unseen_text(alloc, why, detail.code),
+        FindingKind::MissingFence(Conflict { earlier, hazard }) => hazard_text(
+            alloc, earlier, hazard,
+        ),
+        FindingKind::GuardingFence(earlier) => guarding_text(alloc, earlier),
+        FindingKind::SignallingFence(awaited) => signalling_text(alloc, awaited),
+        FindingKind::GuardingAndSignallingFence(earlier, awaited) => both_text(
+            alloc, earlier, awaited,
+        ),
+        FindingKind::NeedlessFence => needless_text(alloc, complete),
+        FindingKind::Repeated(earlier) => repeated_text(alloc, earlier),
+        FindingKind::Flawed(flaw) => flaw_text(alloc, flaw),
     }
 }
 
@@ -371,22 +386,26 @@ fn push_more(alloc: Global, line: &mut String, detail: &Detail) -> Result<(), Al
         more_words detail.now detail.now.cause) }
 {
     match detail.cause {
-        Cause::NotSeen(Unseen::Owner) => {
+        FindingKind::NotSeen(Unseen::Owner) => {
             line.push_str(&owners_text(alloc, detail.owner, detail.head_owner)?)
         }
-        Cause::MissingFence(earlier, _) => {
+        FindingKind::MissingFence(Conflict { earlier, .. }) => {
             line.push_str(&overlap_text(alloc, detail.overlap)?)?;
             line.push_str(&record_text(alloc, detail.records, "member ", earlier)?)
         }
-        Cause::NotSeen(
+        FindingKind::NotSeen(
             Unseen::Blank | Unseen::Operation | Unseen::Nested | Unseen::Empty | Unseen::Wrap,
         )
-        | Cause::GuardingFence(_)
-        | Cause::SignallingFence(_)
-        | Cause::GuardingAndSignallingFence(_, _)
-        | Cause::NeedlessFence
-        | Cause::Repeated(_) => Ok(()),
-        Cause::Flawed(flaw) => line.push_str(&flaw_place_text(alloc, detail.record_at, flaw)?),
+        | FindingKind::GuardingFence(_)
+        | FindingKind::SignallingFence(_)
+        | FindingKind::GuardingAndSignallingFence(_, _)
+        | FindingKind::NeedlessFence
+        | FindingKind::Repeated(_) => Ok(()),
+        FindingKind::Flawed(flaw) => line.push_str(&flaw_place_text(
+            alloc,
+            detail.record_at,
+            flaw,
+        )?),
     }
 }
 

@@ -7,8 +7,8 @@ ghost use Rattle.dsa_recording.specs.Totals.{HasSums};
 
 use crate::answer::{AuditFormat, AuditOptions, completeness, is_complete, severity_in};
 use crate::costs::costs_text;
-use crate::detail::{Cause, Detail, detail_of};
-use crate::freed::freed_text;
+use crate::detail::{Detail, detail_of};
+use crate::freed::{freed_text, is_needless};
 use crate::keys::key_text;
 use crate::report::Report;
 use crate::report_json::{push_finding, report_json};
@@ -68,7 +68,7 @@ fn said_text(
     complete: bool,
 ) -> Result<String, AllocError> {
     let mut said = key_text(alloc, all, detail)?;
-    if !complete && detail.cause == Cause::NeedlessFence {
+    if !complete && is_needless(detail.cause) {
         said.push_str(", once the missing fences are set")?;
     }
     Ok(said)

@@ -1,9 +1,9 @@
 use Rattle.std.proofs.Common.{◌≡◌, ℕ, List, true, false, ap, subst, refl, sym, ◌∙◌}
-use Rattle.dsa_recording.specs.Findings.{is_harmless}
 use Rattle.dsa_recording.specs.Keys.{key_words}
 use Rattle.dsa_recording.specs.Pairs.{has_key}
 use Rattle.dsa_recording.specs.Reports.{reported_by}
 use Rattle.dsa_recording.specs.Uses.{Excuses}
+use Rattle.dsa_recording.specs.Words.{is_error, severity_of}
 use Rattle.dsa_recording.proofs.Using.{adds_line, adds_none, adds_same, excuses_one, on_ok}
 use Rattle.dsa_recording.proofs.uses.use_finding.Goals as goal
 
@@ -27,7 +27,7 @@ returns c =
     let own = key_words c.args.all.now c.in-Some.detail in
     let P : List ℕ → Type 0 = λ key. (has_key accepted key ≡ true) × Excuses c.args.options c.args.all.now r c.args.finding key in
     let whole : c.has.result ≡ has_key accepted own = c.has.ensures ∙ ap (has_key accepted) (c.deref.ensures ∙ c.in_ok-key.ensures) in
-    let harmful : is_harmless c.args.options.denied c.args.finding.kind ≡ false = sym c.is_harmless.ensures ∙ c.if-is_harmless.false in
+    let harmful : is_error (severity_of c.args.options.denied c.args.finding.kind) ≡ true = sym (c.is_error.ensures ∙ ap is_error c.severity_of.ensures) ∙ c.if-not-is_error.false in
     let text : c.deref-2.result.now ≡ own = c.deref-2.ensures ∙ c.in_ok-key.ensures in
     let here : P c.deref-2.result.now = subst P (sym text) (sym whole ∙ c.if-not-has.false, (harmful, (c.in-Some.detail, c.in-Some.ensures, refl))) in
     on_ok c.add.result _ _

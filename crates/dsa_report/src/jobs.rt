@@ -6,12 +6,13 @@ ghost use Rattle.dsa_report.specs.Calls.{AnswersRead};
 ghost use Rattle.dsa_report.specs.Gives.{GivesLine};
 ghost use Rattle.dsa_report.specs.Fields.{IsObject, all_members};
 ghost use Rattle.dsa_report.specs.Job.{HasName, NamesJob, has, name_text};
-ghost use Rattle.dsa_report.specs.Read.{IsJob, ReadsJob, ReadsJobText};
+ghost use Rattle.dsa_report.specs.Read.{HasParts, IsJob, ReadsJob, ReadsJobText};
 
 use crate::answer_line::AnswerLine;
 use crate::check_job::{CheckJob, check_line, check_of};
 use crate::fields::{JobObject, Slots};
 use crate::judge_job::{JudgeJob, judge_line, judge_of};
+use crate::parts::{Parts, parts_of};
 use crate::plan_job::{PlanJob, plan_job_of, plan_line};
 use crate::reading::LONGEST_TEXT;
 use crate::replay_job::{ReplayJob, replay_line, replay_of};
@@ -121,16 +122,28 @@ pub fn read_job(alloc: Global, text: &[u8]) -> Result<Job, PlanFault>
     }
 }
 
+/// The job of this name that has these parts.
+fn named_job(name: JobName, parts: Parts) -> Result<Job, PlanFault>
+    ensures { (d : Data) → HasParts name d parts → ReadsJob IsJob d result }
+{
+    match name {
+        JobName::Judge => Ok(Job::Judge(judge_of(parts)?)),
+        JobName::Plan => Ok(Job::Plan(plan_job_of(parts)?)),
+        JobName::Check => Ok(Job::Check(check_of(parts)?)),
+        JobName::Replay => Ok(Job::Replay(replay_of(parts)?)),
+        JobName::Run => Ok(Job::Run(run_of(parts)?)),
+    }
+}
+
 /// The job that an object spells, or the first cause to refuse it.
 fn job_of(alloc: Global, slots: Slots<'_>) -> Result<Job, PlanFault>
     ensures { (d : Data) → IsObject d (Some slots.entry) → ReadsJob IsJob d result }
 {
     match job_name(&slots) {
-        Some(JobName::Judge) => Ok(Job::Judge(judge_of(alloc, slots)?)),
-        Some(JobName::Plan) => Ok(Job::Plan(plan_job_of(alloc, slots)?)),
-        Some(JobName::Check) => Ok(Job::Check(check_of(alloc, slots)?)),
-        Some(JobName::Replay) => Ok(Job::Replay(replay_of(alloc, slots)?)),
-        Some(JobName::Run) => Ok(Job::Run(run_of(alloc, slots)?)),
+        Some(name) => {
+            let parts = parts_of(alloc, slots, name)?;
+            named_job(name, parts)
+        }
         None => Err(PlanFault::Do),
     }
 }

@@ -8,15 +8,18 @@ use Rattle.std.proofs.lemmas.List.Folds.{flat_map-map}
 use Rattle.std.proofs.lemmas.Simd.{map-map}
 use Rattle.dsa_descriptor.specs.declared.descriptor.Descriptor.{Descriptor}
 use Rattle.dsa_descriptor.specs.declared.fault.FieldFault.{FieldFault}
-use Rattle.dsa_descriptor.specs.declared.fault.FieldFault.TheVariants.{Opcode, FlagBits}
+use Rattle.dsa_descriptor.specs.declared.fault.FieldFault.TheVariants.{Opcode, FlagBits, Reserved}
 use Rattle.dsa_descriptor.specs.declared.fault.ListFault.{ListFault}
 use Rattle.dsa_descriptor.specs.declared.fault.ListFault.TheVariants.{Memory}
 use Rattle.dsa_descriptor.specs.declared.op.Op.{Op}
+use Rattle.dsa_descriptor.specs.declared.op.Op.TheVariants.{Move, Fill, Compare, ComparePattern, ApplyDelta, Dualcast}
 use Rattle.dsa_descriptor.specs.Descriptors.{fields}
 use Rattle.dsa_descriptor.specs.Faults.{IsFirstFault, Keeps}
 use Rattle.dsa_descriptor.specs.Fields.{Fields}
+use Rattle.dsa_descriptor.specs.Operands.{code_of}
 use Rattle.dsa_descriptor.specs.Lists.{list_spelling, AreEntries, AreOfOneOwner, HaveOneOwner, IsFirstListFault, IsSound}
-use Rattle.dsa_descriptor.specs.Places.{flags_at, op_at, pasid_at, privileged_at, u32_at}
+use Rattle.dsa_descriptor.specs.Places.{flags_at, op_at, pasid_at, privileged_at, reserved_bits_at, u32_at}
+use Rattle.dsa_descriptor.specs.Profile.{IsListed}
 use Rattle.dsa_descriptor.specs.Spelling.{spelling}
 use Rattle.dsa_descriptor.proofs.Entries.{chunks_by, fault_by, first_by_is_one, length-entries_spelling, one_entries_spelling, sound_by, sound_or_fault_by}
 use Rattle.dsa_descriptor.proofs.Masks.{no_fence_listed}
@@ -41,15 +44,39 @@ lowest_kept : (bytes : List ℕ) (found : Option Op) → op_at bytes ≡ found �
 lowest_kept bytes None is kept = absurd ((unnamed bytes is).stands (kept Opcode))
 lowest_kept bytes (Some op) is kept = named_kept bytes op is kept
 
+-- nor a reserved bit
+unreserved_kept : (bytes : List ℕ) (found : Option Op) → op_at bytes ≡ found → ((fault : FieldFault) → Keeps bytes fault) → reserved_bits_at bytes ≡ 0
+unreserved_kept bytes None is kept = absurd ((unnamed bytes is).stands (kept Opcode))
+unreserved_kept bytes (Some op) is kept = (rule bytes op is Reserved (kept Reserved)).0
+
 abbrev pub spelt : Descriptor → List ℕ
 spelt d = spelling (fields d)
+
+-- no code is that of a batch
+other_code : (op : Op) → (code_of op ≢ 1) × (code_of op < 256)
+other_code (Move src dst) = (λ e. absurd (omega arith), omega arith)
+other_code (Fill pattern dst) = (λ e. absurd (omega arith), omega arith)
+other_code (Compare src src2 expected) = (λ e. absurd (omega arith), omega arith)
+other_code (ComparePattern src pattern expected) = (λ e. absurd (omega arith), omega arith)
+other_code (ApplyDelta delta dst record_size) = (λ e. absurd (omega arith), omega arith)
+other_code (Dualcast src dst dst2) = (λ e. absurd (omega arith), omega arith)
+
+pub code_told : (f : Fields) → IsListed f → get_or (spelling f) 7 0 ≢ 1
+unfolding spelling
+code_told f listed e =
+    let code = other_code f.op in
+    let fits : f.flags < 2 ^ 24 = listed.flags_fit in
+    let is : code_of f.op ≡ 1 = omega (arith, code.1) in
+    code.0 is
 
 pub are_entries : AreEntries spelt Keeps
 are_entries = record {
   whole = length-spelling;
   kept = λ d fault. spelling_keeps (fields d) d.listed fault;
   one = one_spelling;
+  single = λ d. code_told (fields d) d.listed;
   plain = λ bytes kept. lowest_kept bytes (op_at bytes) refl kept;
+  unreserved = λ bytes kept. unreserved_kept bytes (op_at bytes) refl kept;
 }
 
 pub fault_only : (bytes : List ℕ) (f : FieldFault) (d : Descriptor) → IsFirstFault bytes f → bytes ≡ spelt d → ⊥

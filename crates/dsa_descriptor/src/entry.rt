@@ -1,6 +1,6 @@
 //! What may be an entry of a list.
 
-ghost use Rattle.std.specs.Prelude.{◌≡◌, ℕ, List, IfErr, IfOk};
+ghost use Rattle.std.specs.Prelude.{◌≡◌, ◌↔◌, ℕ, List, IfErr, IfOk, IsTrue};
 ghost use Rattle.dsa_descriptor.specs.declared.fault.FieldFault.{FieldFault};
 ghost use Rattle.dsa_descriptor.specs.Descriptors.{fields};
 ghost use Rattle.dsa_descriptor.specs.Faults.{IsFirstBreach, Keeps};
@@ -8,6 +8,7 @@ ghost use Rattle.dsa_descriptor.specs.Lists.{AreEntries};
 ghost use Rattle.dsa_descriptor.specs.Spelling.{spelling};
 
 use crate::descriptor::Descriptor;
+use crate::equality::same_descriptor;
 use crate::fault::FieldFault;
 
 /// What 64 bytes of a list may spell.
@@ -33,6 +34,10 @@ pub trait Entry: Copy {
     /// The bytes that spell it.
     fn write_entry(&self) -> [u8; 64]
         ensures { result ≡ spelling self.now };
+
+    /// Whether the two are equal.
+    fn is_same(&self, other: &Self) -> bool
+        ensures { IsTrue result ↔ (self.now ≡ other.now) };
 }
 
 impl Entry for Descriptor {
@@ -50,5 +55,11 @@ impl Entry for Descriptor {
     #[inline(always)]
     fn write_entry(&self) -> [u8; 64] {
         self.write()
+    }
+
+    #[inline(always)]
+    #[tactic(auto, using(crate::proofs::Same::same_descriptor))]
+    fn is_same(&self, other: &Self) -> bool {
+        same_descriptor(self, other)
     }
 }

@@ -1,10 +1,10 @@
-//! Whether two images, two descriptors or two lists of descriptors are equal.
+//! Whether two images or two lists of descriptors are equal.
 
 ghost use Rattle.std.specs.Prelude.{◌≡◌, ◌↔◌, IsTrue, map};
 ghost use Rattle.dsa_descriptor.specs.Descriptors.{fields};
 
 use crate::image::Image;
-use dsa_descriptor::Descriptor;
+use dsa_descriptor::{Descriptor, same_descriptor};
 
 /// Whether the images are equal.
 pub fn same_image(a: &Image, b: &Image) -> bool
@@ -14,19 +14,6 @@ pub fn same_image(a: &Image, b: &Image) -> bool
         return false;
     }
     a.bytes() == b.bytes()
-}
-
-/// Whether the descriptors are equal.
-pub fn same_descriptor(a: &Descriptor, b: &Descriptor) -> bool
-    ensures { IsTrue result ↔ (fields a.now ≡ fields b.now) }
-{
-    a.pasid == b.pasid
-        && a.privileged == b.privileged
-        && a.flags == b.flags
-        && a.record_at == b.record_at
-        && a.size == b.size
-        && a.int_handle == b.int_handle
-        && a.op == b.op
 }
 
 /// Whether the lists of pieces are equal.

@@ -3,8 +3,6 @@ use Rattle.std.specs.Prelude.{ℕ, ◌≡◌, ◌≢◌, ◌+◌, ◌≤◌, ◌
 use Rattle.std.specs.List.{Contains}
 use Rattle.dsa_descriptor.specs.declared.span.Span.{Span}
 use Rattle.dsa_descriptor.specs.Spans.{InSpan}
-use Rattle.dsa_descriptor.specs.Fields.{Fields}
-use Rattle.dsa_ranges.specs.Ranges.{read_spans, written_spans}
 use Rattle.dsa_settings.specs.declared.sweep.Access.{Access}
 use Rattle.dsa_settings.specs.declared.sweep.Reach.{Reach}
 use Rattle.dsa_settings.specs.declared.sweep.Seen.{Seen}
@@ -48,7 +46,7 @@ pub record HasSeen (seen : Seen) (a : Access) : Type 0 where
   pub all : Covers seen.all a
   pub written : a.written ≡ true → Covers seen.written a
 
--- the accesses have all that the piece of these fields touches
-pub record HasAccesses (accesses : List Access) (f : Fields) (owner : ℕ) : Type 0 where
-  pub reads : (s : Span) → Contains (read_spans f) s → Contains accesses (access s owner false)
-  pub writes : (s : Span) → Contains (written_spans f) s → Contains accesses (access s owner true)
+-- the accesses have all that the piece reads and writes
+pub record HasAccesses (accesses : List Access) (read written : List Span) (owner : ℕ) : Type 0 where
+  pub reads : (s : Span) → Contains read s → Contains accesses (access s owner false)
+  pub writes : (s : Span) → Contains written s → Contains accesses (access s owner true)

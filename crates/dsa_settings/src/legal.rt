@@ -18,7 +18,7 @@ use crate::settings::Settings;
 use crate::sweep::{Access, ROOM, is_seen_fenced};
 use arrayvec::ArrayVec;
 use dsa_descriptor::{Descriptor, Indices};
-use dsa_ranges::{in_conflict, touched};
+use dsa_ranges::{Piece, in_conflict};
 
 /// The most pieces without a fence between them whose pairs are compared one by one.
 const FEW_PIECES: usize = 16;
@@ -124,22 +124,28 @@ fn shape_fault(groups: &[Group], settings: &Settings) -> Option<LegalFault>
 
 /// In a group that begins with piece `start`: the greatest piece before `at` that conflicts with it, if no piece after
 /// it and up to `at` is fenced.
-fn unfenced_before(fences: &[bool], pieces: &[Descriptor], start: usize, at: usize) -> Option<usize>
+fn unfenced_before<P: Piece>(
+    fences: &[bool],
+    pieces: &[P],
+    start: usize,
+    at: usize,
+) -> Option<usize>
     requires begun { start ≤ at }
     requires within { at < start + length fences.now }
     requires known { start + length fences.now ≤ length pieces.now }
     ensures { MatchOption result
-        (HasNoUnfenced (ConflictAt (map fields pieces.now)) start fences.now at)
-        (λ i. IsLastUnfenced (ConflictAt (map fields pieces.now)) start fences.now i at) }
+        (HasNoUnfenced (P.conflict pieces.now) start fences.now at)
+        (λ i. IsLastUnfenced (P.conflict pieces.now) start fences.now i at) }
 {
-    let later = touched(&pieces[at]);
+    P::are_pieces();
+    let later = pieces[at].touched_spans();
     let mut i = at;
     while i > start {
         if fences[i - start] {
             return None;
         }
         i -= 1;
-        if in_conflict(&touched(&pieces[i]), &later) {
+        if in_conflict(&pieces[i].touched_spans(), &later) {
             return Some(i);
         }
     }
@@ -147,15 +153,15 @@ fn unfenced_before(fences: &[bool], pieces: &[Descriptor], start: usize, at: usi
 }
 
 /// In a group that begins with piece `start`: the first pair of conflicting pieces with no fence between.
-fn first_unfenced_within(
+fn first_unfenced_within<P: Piece>(
     group: &Group,
-    pieces: &[Descriptor],
+    pieces: &[P],
     start: usize,
 ) -> Option<(usize, usize)>
     requires { start + length group.now ≤ length pieces.now }
     ensures { MatchOption result
-        (IsFencedWithin (ConflictAt (map fields pieces.now)) start group.now)
-        (λ p. IsFirstUnfencedWithin (ConflictAt (map fields pieces.now)) start group.now p.0 p.1) }
+        (IsFencedWithin (P.conflict pieces.now) start group.now)
+        (λ p. IsFirstUnfencedWithin (P.conflict pieces.now) start group.now p.0 p.1) }
 {
     for at in start..start + group.len() {
         if let Some(i) = unfenced_before(group.fences(), pieces, start, at) {
@@ -182,17 +188,17 @@ fn is_long(group: &Group) -> bool {
 }
 
 /// The first unfenced conflict; long groups are swept first, to skip the comparison of pairs.
-fn first_unfenced_of(
+fn first_unfenced_of<P: Piece>(
     group: &Group,
-    pieces: &[Descriptor],
+    pieces: &[P],
     start: usize,
     accesses: &mut ArrayVec<Access, ROOM>,
 ) -> Option<(usize, usize)>
     requires known { start + length group.now ≤ length pieces.now }
     requires few { length pieces.now ≤ most_pieces }
     ensures { MatchOption result
-        (IsFencedWithin (ConflictAt (map fields pieces.now)) start group.now)
-        (λ p. IsFirstUnfencedWithin (ConflictAt (map fields pieces.now)) start group.now p.0 p.1) }
+        (IsFencedWithin (P.conflict pieces.now) start group.now)
+        (λ p. IsFirstUnfencedWithin (P.conflict pieces.now) start group.now p.0 p.1) }
 {
     if is_long(group) && is_seen_fenced(group, pieces, start, accesses) {
         return None;
@@ -202,12 +208,12 @@ fn first_unfenced_of(
 
 /// The first pair of conflicting pieces of one group with no fence between.
 #[inline(never)]
-fn first_unfenced(groups: &[Group], pieces: &[Descriptor]) -> Option<(usize, usize)>
+fn first_unfenced<P: Piece>(groups: &[Group], pieces: &[P]) -> Option<(usize, usize)>
     requires all { piece_count groups.now ≡ length pieces.now }
     requires few { length pieces.now ≤ most_pieces }
     ensures { MatchOption result
-        (IsFencedThroughout (ConflictAt (map fields pieces.now)) groups.now)
-        (λ p. IsFirstUnfenced (ConflictAt (map fields pieces.now)) groups.now p.0 p.1) }
+        (IsFencedThroughout (P.conflict pieces.now) groups.now)
+        (λ p. IsFirstUnfenced (P.conflict pieces.now) groups.now p.0 p.1) }
 {
     let mut accesses = ArrayVec::new();
     let mut start = 0;
@@ -221,17 +227,16 @@ fn first_unfenced(groups: &[Group], pieces: &[Descriptor]) -> Option<(usize, usi
 }
 
 /// The first pair of pieces of one group with no fence between that conflict, or have a barrier between.
-fn first_unfenced_with(
+fn first_unfenced_with<P: Piece>(
     groups: &[Group],
-    pieces: &[Descriptor],
+    pieces: &[P],
     barriers: &[bool],
 ) -> Option<(usize, usize)>
     requires all { piece_count groups.now ≡ length pieces.now }
     requires few { length pieces.now ≤ most_pieces }
     ensures { MatchOption result
-        (IsFencedThroughout (WithBarriers (ConflictAt (map fields pieces.now)) barriers.now)
-        groups.now)
-        (λ p. IsFirstUnfenced (WithBarriers (ConflictAt (map fields pieces.now)) barriers.now)
+        (IsFencedThroughout (WithBarriers (P.conflict pieces.now) barriers.now) groups.now)
+        (λ p. IsFirstUnfenced (WithBarriers (P.conflict pieces.now) barriers.now)
         groups.now p.0 p.1) }
 {
     let found = first_unfenced(groups, pieces);
@@ -262,21 +267,20 @@ pub fn is_legal(plan: &Plan, pieces: &[Descriptor], settings: &Settings) -> Resu
     is_legal_with(plan, pieces, &[], settings)
 }
 
-/// Whether the plan is legal for the pieces, as [`is_legal`] says, and keeps their barriers: each piece whose mark is
-/// set is fenced, or its group begins with it. Else its first fault; a barrier that is not kept is `Unfenced`, with the
-/// pieces just before and just after it.
-pub fn is_legal_with(
+/// Whether the plan is legal for pieces of any kind, as [`is_legal`] says, and keeps their barriers: each piece whose
+/// mark is set is fenced, or its group begins with it. Else its first fault; a barrier that is not kept is `Unfenced`,
+/// with the pieces just before and just after it.
+pub fn is_legal_with<P: Piece>(
     plan: &Plan,
-    pieces: &[Descriptor],
+    pieces: &[P],
     barriers: &[bool],
     settings: &Settings,
 ) -> Result<(), LegalFault>
     requires { length pieces.now ≤ most_pieces }
-    ensures legal { IsOk result ↔
-        IsLegal (WithBarriers (ConflictAt (map fields pieces.now)) barriers.now)
+    ensures legal { IsOk result ↔ IsLegal (WithBarriers (P.conflict pieces.now) barriers.now)
         settings.now.greatest_batch (length pieces.now) plan.now }
     ensures fault { (f : LegalFault) → (result ≡ Err f) ↔
-        IsFirstLegalFault (WithBarriers (ConflictAt (map fields pieces.now)) barriers.now)
+        IsFirstLegalFault (WithBarriers (P.conflict pieces.now) barriers.now)
         settings.now.greatest_batch (length pieces.now) plan.now f }
     ensures shapes { IfOk result (λ _. (piece_count plan.now ≡ length pieces.now) ×
         HasGroupShapes settings.now.greatest_batch plan.now) }

@@ -5,17 +5,14 @@ ghost use Rattle.std.specs.Prelude.{◌≡◌, ◌≢◌, ◌+◌, ◌<◌, ◌�
 ghost use Rattle.std.specs.List.{Contains};
 ghost use Rattle.std.specs.List.Sorted.{IsNonDecreasingBy};
 ghost use Rattle.arrayvec.specs.ArrayVec.{array_vec_len};
-ghost use Rattle.dsa_descriptor.specs.Descriptors.{fields};
 ghost use Rattle.dsa_descriptor.specs.Pieces.{most_pieces};
-ghost use Rattle.dsa_ranges.specs.Ranges.{ConflictAt};
 ghost use Rattle.dsa_settings.specs.declared.sweep.Access.{Access};
 ghost use Rattle.dsa_settings.specs.LegalFaults.{IsFencedWithin};
 ghost use Rattle.dsa_settings.specs.Sweeps.{access, access_end, first_of, Clash, Covers, IsOrdered, HasSeen, HasAccesses, HasNoClash};
 
 use crate::plan::Group;
 use arrayvec::ArrayVec;
-use dsa_descriptor::Descriptor;
-use dsa_ranges::{Span, touched};
+use dsa_ranges::{Piece, Span};
 
 /// The greatest number of spans that a piece touches.
 const MOST_SPANS: usize = 6;
@@ -185,28 +182,29 @@ fn push_all(accesses: &mut ArrayVec<Access, ROOM>, spans: &[Span], owner: u32, w
 }
 
 /// Appends what the piece touches.
-fn push_piece(accesses: &mut ArrayVec<Access, ROOM>, piece: &Descriptor, owner: u32)
+fn push_piece<P: Piece>(accesses: &mut ArrayVec<Access, ROOM>, piece: &P, owner: u32)
     requires { array_vec_len accesses.old + 6 ≤ 6144 }
     ensures kept { (a : Access) → Contains accesses.old.items a → Contains accesses.new.items a }
-    ensures held { HasAccesses accesses.new.items (fields piece.now) owner }
+    ensures held { HasAccesses accesses.new.items (P.reads piece.now) (P.writes piece.now) owner }
 {
-    let touched = touched(piece);
+    let touched = piece.touched_spans();
     push_all(accesses, touched.reads.as_slice(), owner, false);
     push_all(accesses, touched.writes.as_slice(), owner, true);
 }
 
 /// In a group that begins with piece `start`: whether a sweep sees that any two conflicting pieces have a fence
 /// between. A `false` says nothing.
-pub(crate) fn is_seen_fenced(
+pub(crate) fn is_seen_fenced<P: Piece>(
     group: &Group,
-    pieces: &[Descriptor],
+    pieces: &[P],
     start: usize,
     accesses: &mut ArrayVec<Access, ROOM>,
 ) -> bool
     requires known { start + length group.now ≤ length pieces.now }
     requires few { length pieces.now ≤ most_pieces }
-    ensures { IsTrue result → IsFencedWithin (ConflictAt (map fields pieces.now)) start group.now }
+    ensures { IsTrue result → IsFencedWithin (P.conflict pieces.now) start group.now }
 {
+    P::are_pieces();
     accesses.clear();
     for at in start..start + group.len() {
         if group.fences()[at - start] {

@@ -1,6 +1,4 @@
-use Rattle.std.proofs.Common.{◌≡◌, ℕ, ◌+◌, refl, length, map, slice_index, sym, ap, ◌∙◌, subst, inl, inr, arith}
-use Rattle.dsa_descriptor.specs.Descriptors.{fields}
-use Rattle.dsa_ranges.specs.Ranges.{ConflictAt}
+use Rattle.std.proofs.Common.{◌≡◌, ℕ, ◌+◌, refl, length, slice_index, sym, ap, ◌∙◌, subst, inl, inr, arith}
 use Rattle.dsa_plan.specs.Certificate.{contents}
 use Rattle.dsa_plan.specs.Barriers.{WithBarriers}
 use Rattle.dsa_plan.specs.Settings.{tariff_of, version_of}
@@ -9,12 +7,13 @@ use Rattle.dsa_checker.specs.Steps.{PairsHold, IsFirstBadPair, StepsHold, IsFirs
 use Rattle.dsa_checker.specs.declared.fault.CheckFault.TheVariants.{Pair, Price, Total}
 use Rattle.dsa_checker.specs.Checked.{IsReady, IsFirstCheckFault}
 use Rattle.dsa_checker.proofs.Answered.{IsYes, any_default, pairs_forward, all_held_is_yes, yes_answer, yes_no_fault, fault_answer, fault_no_yes}
+use Rattle.dsa_checker.proofs.checking.check_with.Given.{Over}
 use Rattle.dsa_checker.proofs.checking.check_with.Goals as goal
 use Rattle.dsa_checker.proofs.checking.check_with.Goals.{In-Some-first_bad_step, In-Some, Else-index-total}
 
 pub first_bad_step-requires-clause-forward : goal.first_bad_step-requires-clause-forward
-first_bad_step-requires-clause-forward c =
-    let C = WithBarriers (ConflictAt (map fields c.args.pieces.now)) c.args.barriers.now in
+first_bad_step-requires-clause-forward g c =
+    let C = WithBarriers (g.P.Piece.conflict c.args.pieces.now) c.args.barriers.now in
     let n = length c.args.pieces.now in
     let cert = contents c.args.certificate.now in
     let pairs_len : length cert.pairs ≡ n = omega (arith, ap length c.deref.ensures.value, c.deref.ensures.len, c.len-2.ensures, c.if-len-pieces-2.false) in
@@ -22,10 +21,12 @@ first_bad_step-requires-clause-forward c =
     rw c.deref-3.ensures.value (pairs_forward C n cert.pairs pairs_len pairs)
 
 -- the fault where a pair does not hold
-bad_pair : (c : In-Some)
-    → IsFirstCheckFault (WithBarriers (ConflictAt (map fields c.args.pieces.now)) c.args.barriers.now) c.args.settings.now.greatest_batch (tariff_of c.args.settings.now) (version_of c.args.settings.now) (length c.args.pieces.now) c.args.plan.now (contents c.args.certificate.now) (Pair c.in-Some.piece)
-bad_pair c =
-    let C = WithBarriers (ConflictAt (map fields c.args.pieces.now)) c.args.barriers.now in
+bad_pair : (g : Over) (c : In-Some g)
+    → IsFirstCheckFault (WithBarriers (g.P.Piece.conflict c.args.pieces.now) c.args.barriers.now)
+    c.args.settings.now.greatest_batch (tariff_of c.args.settings.now) (version_of c.args.settings.now)
+    (length c.args.pieces.now) c.args.plan.now (contents c.args.certificate.now) (Pair c.in-Some.piece)
+bad_pair g c =
+    let C = WithBarriers (g.P.Piece.conflict c.args.pieces.now) c.args.barriers.now in
     let greatest_batch = c.args.settings.now.greatest_batch in
     let tariff = tariff_of c.args.settings.now in
     let n = length c.args.pieces.now in
@@ -41,16 +42,25 @@ bad_pair c =
     (ready, bad)
 
 pub returns-in-Some-clause-fault : goal.returns-in-Some-clause-fault
-returns-in-Some-clause-fault c = fault_answer (WithBarriers (ConflictAt (map fields c.args.pieces.now)) c.args.barriers.now) c.args.settings.now.greatest_batch (tariff_of c.args.settings.now) (version_of c.args.settings.now) (length c.args.pieces.now) c.args.plan.now (contents c.args.certificate.now) (Pair c.in-Some.piece) (bad_pair c)
+returns-in-Some-clause-fault g c =
+    fault_answer (WithBarriers (g.P.Piece.conflict c.args.pieces.now) c.args.barriers.now)
+    c.args.settings.now.greatest_batch (tariff_of c.args.settings.now) (version_of c.args.settings.now)
+    (length c.args.pieces.now) c.args.plan.now (contents c.args.certificate.now) (Pair c.in-Some.piece) (bad_pair g c)
 
 pub returns-in-Some-clause-certificate_good : goal.returns-in-Some-clause-certificate_good
-returns-in-Some-clause-certificate_good c = fault_no_yes (WithBarriers (ConflictAt (map fields c.args.pieces.now)) c.args.barriers.now) c.args.settings.now.greatest_batch (tariff_of c.args.settings.now) (version_of c.args.settings.now) (length c.args.pieces.now) c.args.plan.now (contents c.args.certificate.now) (Pair c.in-Some.piece) (bad_pair c)
+returns-in-Some-clause-certificate_good g c =
+    fault_no_yes (WithBarriers (g.P.Piece.conflict c.args.pieces.now) c.args.barriers.now)
+    c.args.settings.now.greatest_batch (tariff_of c.args.settings.now) (version_of c.args.settings.now)
+    (length c.args.pieces.now) c.args.plan.now (contents c.args.certificate.now) (Pair c.in-Some.piece) (bad_pair g c)
 
 -- the fault where a step does not hold
-bad_step : (c : In-Some-first_bad_step)
-    → IsFirstCheckFault (WithBarriers (ConflictAt (map fields c.args.pieces.now)) c.args.barriers.now) c.args.settings.now.greatest_batch (tariff_of c.args.settings.now) (version_of c.args.settings.now) (length c.args.pieces.now) c.args.plan.now (contents c.args.certificate.now) (Price c.in-Some-first_bad_step.start c.in-Some-first_bad_step.end)
-bad_step c =
-    let C = WithBarriers (ConflictAt (map fields c.args.pieces.now)) c.args.barriers.now in
+bad_step : (g : Over) (c : In-Some-first_bad_step g)
+    → IsFirstCheckFault (WithBarriers (g.P.Piece.conflict c.args.pieces.now) c.args.barriers.now)
+    c.args.settings.now.greatest_batch (tariff_of c.args.settings.now) (version_of c.args.settings.now)
+    (length c.args.pieces.now) c.args.plan.now (contents c.args.certificate.now)
+    (Price c.in-Some-first_bad_step.start c.in-Some-first_bad_step.end)
+bad_step g c =
+    let C = WithBarriers (g.P.Piece.conflict c.args.pieces.now) c.args.barriers.now in
     let greatest_batch = c.args.settings.now.greatest_batch in
     let tariff = tariff_of c.args.settings.now in
     let n = length c.args.pieces.now in
@@ -71,18 +81,26 @@ bad_step c =
     (ready, pairs, inr (first, bad))
 
 pub returns-in-Some-first_bad_step-clause-certificate_good : goal.returns-in-Some-first_bad_step-clause-certificate_good
-returns-in-Some-first_bad_step-clause-certificate_good c =
-    fault_no_yes (WithBarriers (ConflictAt (map fields c.args.pieces.now)) c.args.barriers.now) c.args.settings.now.greatest_batch (tariff_of c.args.settings.now) (version_of c.args.settings.now) (length c.args.pieces.now) c.args.plan.now (contents c.args.certificate.now) (Price c.in-Some-first_bad_step.start c.in-Some-first_bad_step.end) (bad_step c)
+returns-in-Some-first_bad_step-clause-certificate_good g c =
+    fault_no_yes (WithBarriers (g.P.Piece.conflict c.args.pieces.now) c.args.barriers.now)
+    c.args.settings.now.greatest_batch (tariff_of c.args.settings.now) (version_of c.args.settings.now)
+    (length c.args.pieces.now) c.args.plan.now (contents c.args.certificate.now)
+    (Price c.in-Some-first_bad_step.start c.in-Some-first_bad_step.end) (bad_step g c)
 
 pub returns-in-Some-first_bad_step-clause-fault : goal.returns-in-Some-first_bad_step-clause-fault
-returns-in-Some-first_bad_step-clause-fault c =
-    fault_answer (WithBarriers (ConflictAt (map fields c.args.pieces.now)) c.args.barriers.now) c.args.settings.now.greatest_batch (tariff_of c.args.settings.now) (version_of c.args.settings.now) (length c.args.pieces.now) c.args.plan.now (contents c.args.certificate.now) (Price c.in-Some-first_bad_step.start c.in-Some-first_bad_step.end) (bad_step c)
+returns-in-Some-first_bad_step-clause-fault g c =
+    fault_answer (WithBarriers (g.P.Piece.conflict c.args.pieces.now) c.args.barriers.now)
+    c.args.settings.now.greatest_batch (tariff_of c.args.settings.now) (version_of c.args.settings.now)
+    (length c.args.pieces.now) c.args.plan.now (contents c.args.certificate.now)
+    (Price c.in-Some-first_bad_step.start c.in-Some-first_bad_step.end) (bad_step g c)
 
 -- the answer where all holds
-answered : (c : Else-index-total)
-    → IsYes (WithBarriers (ConflictAt (map fields c.args.pieces.now)) c.args.barriers.now) c.args.settings.now.greatest_batch (tariff_of c.args.settings.now) (version_of c.args.settings.now) (length c.args.pieces.now) c.args.plan.now (contents c.args.certificate.now) c.cost-total.result
-answered c =
-    let C = WithBarriers (ConflictAt (map fields c.args.pieces.now)) c.args.barriers.now in
+answered : (g : Over) (c : Else-index-total g)
+    → IsYes (WithBarriers (g.P.Piece.conflict c.args.pieces.now) c.args.barriers.now)
+    c.args.settings.now.greatest_batch (tariff_of c.args.settings.now) (version_of c.args.settings.now)
+    (length c.args.pieces.now) c.args.plan.now (contents c.args.certificate.now) c.cost-total.result
+answered g c =
+    let C = WithBarriers (g.P.Piece.conflict c.args.pieces.now) c.args.barriers.now in
     let greatest_batch = c.args.settings.now.greatest_batch in
     let tariff = tariff_of c.args.settings.now in
     let n = length c.args.pieces.now in
@@ -103,21 +121,28 @@ answered c =
     all_held_is_yes C greatest_batch tariff (version_of c.args.settings.now) n c.args.plan.now cert c.cost-total.result ready pairs first steps last c.cost-total.ensures
 
 pub returns-clause-certificate_good : goal.returns-clause-certificate_good
-returns-clause-certificate_good c =
-    yes_answer (WithBarriers (ConflictAt (map fields c.args.pieces.now)) c.args.barriers.now) c.args.settings.now.greatest_batch (tariff_of c.args.settings.now) (version_of c.args.settings.now) (length c.args.pieces.now) c.args.plan.now (contents c.args.certificate.now) c.cost-total.result (answered c)
+returns-clause-certificate_good g c =
+    yes_answer (WithBarriers (g.P.Piece.conflict c.args.pieces.now) c.args.barriers.now)
+    c.args.settings.now.greatest_batch (tariff_of c.args.settings.now) (version_of c.args.settings.now)
+    (length c.args.pieces.now) c.args.plan.now (contents c.args.certificate.now) c.cost-total.result (answered g c)
 
 pub returns-clause-least : goal.returns-clause-least
-returns-clause-least c = λ _.
+returns-clause-least g c = λ _.
     let cert = contents c.args.certificate.now in
-    let answer = answered c in
-    yes_means_least (WithBarriers (ConflictAt (map fields c.args.pieces.now)) c.args.barriers.now) c.args.settings.now.greatest_batch (tariff_of c.args.settings.now) (length c.args.pieces.now) c.args.plan.now cert.prices cert.pairs c.cost-total.result answer.0 answer.2 answer.3
+    let answer = answered g c in
+    yes_means_least (WithBarriers (g.P.Piece.conflict c.args.pieces.now) c.args.barriers.now)
+    c.args.settings.now.greatest_batch (tariff_of c.args.settings.now) (length c.args.pieces.now) c.args.plan.now
+    cert.prices cert.pairs c.cost-total.result answer.0 answer.2 answer.3
 
 pub returns-clause-fault : goal.returns-clause-fault
-returns-clause-fault c = yes_no_fault (WithBarriers (ConflictAt (map fields c.args.pieces.now)) c.args.barriers.now) c.args.settings.now.greatest_batch (tariff_of c.args.settings.now) (version_of c.args.settings.now) (length c.args.pieces.now) c.args.plan.now (contents c.args.certificate.now) c.cost-total.result (answered c)
+returns-clause-fault g c =
+    yes_no_fault (WithBarriers (g.P.Piece.conflict c.args.pieces.now) c.args.barriers.now)
+    c.args.settings.now.greatest_batch (tariff_of c.args.settings.now) (version_of c.args.settings.now)
+    (length c.args.pieces.now) c.args.plan.now (contents c.args.certificate.now) c.cost-total.result (answered g c)
 
 pub returns-then-index-ne0-clause-fault : goal.returns-then-index-ne0-clause-fault
-returns-then-index-ne0-clause-fault c =
-    let C = WithBarriers (ConflictAt (map fields c.args.pieces.now)) c.args.barriers.now in
+returns-then-index-ne0-clause-fault g c =
+    let C = WithBarriers (g.P.Piece.conflict c.args.pieces.now) c.args.barriers.now in
     let greatest_batch = c.args.settings.now.greatest_batch in
     let tariff = tariff_of c.args.settings.now in
     let n = length c.args.pieces.now in
@@ -134,8 +159,8 @@ returns-then-index-ne0-clause-fault c =
     (ready, pairs, inl ((λ e. c.if-index-ne0.true (sym (any_default cert.prices 0 0 c.index.result.now (omega arith) ∙ sym c.index.ensures) ∙ e)), refl, refl))
 
 pub returns-then-index-total-clause-fault : goal.returns-then-index-total-clause-fault
-returns-then-index-total-clause-fault c =
-    let C = WithBarriers (ConflictAt (map fields c.args.pieces.now)) c.args.barriers.now in
+returns-then-index-total-clause-fault g c =
+    let C = WithBarriers (g.P.Piece.conflict c.args.pieces.now) c.args.barriers.now in
     let greatest_batch = c.args.settings.now.greatest_batch in
     let tariff = tariff_of c.args.settings.now in
     let n = length c.args.pieces.now in

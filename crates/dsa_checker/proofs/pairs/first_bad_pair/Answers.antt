@@ -1,13 +1,13 @@
-use Rattle.std.proofs.Common.{ℕ, map, length, below_more, arith}
-use Rattle.dsa_descriptor.specs.Descriptors.{fields}
-use Rattle.dsa_ranges.specs.Ranges.{ConflictAt}
+use Rattle.std.proofs.Common.{ℕ, length, below_more, arith}
 use Rattle.dsa_plan.specs.Barriers.{WithBarriers}
 use Rattle.dsa_checker.specs.Steps.{PairHolds}
 use Rattle.dsa_checker.proofs.pairs.first_bad_pair.Goals as goal
 
 pub loop-i-preserved : goal.loop-i-preserved
-loop-i-preserved c =
-    below_more (λ (k : ℕ). PairHolds (WithBarriers (ConflictAt (map fields c.args.pieces.now)) c.args.barriers.now) (length c.args.pieces.now) c.args.pairs.now k) c.loop-i.i c.loop-i.invariant (c.pair_holds.ensures.0 c.if-not-pair_holds.false)
+loop-i-preserved g c =
+    let C = WithBarriers (g.P.Piece.conflict c.args.pieces.now) c.args.barriers.now in
+    below_more (λ (k : ℕ). PairHolds C (length c.args.pieces.now) c.args.pairs.now k) c.loop-i.i c.loop-i.invariant
+    (c.pair_holds.ensures.0 c.if-not-pair_holds.false)
 
 pub returns : goal.returns
-returns c = λ i lt. c.loop-i.invariant i (omega (arith, lt, c.loop-i-test.false, c.requires))
+returns g c = λ i lt. c.loop-i.invariant i (omega (arith, lt, c.loop-i-test.false, c.requires))

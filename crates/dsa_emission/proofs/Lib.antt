@@ -1,5 +1,6 @@
 pub mod Emitted
 pub mod Places
+pub mod OfDescriptors
 pub mod Told
 pub mod AtPlaces
 pub mod Shapes

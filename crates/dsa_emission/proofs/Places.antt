@@ -3,21 +3,18 @@ use Rattle.std.proofs.Common.{ℕ, zero, suc, ◌≡◌, ◌+◌, ◌-◌, ◌*�
 use Rattle.std.specs.Prelude.{map, slice_index_or, replicate}
 use Rattle.std.specs.List.{flat_map}
 use Rattle.std.proofs.lemmas.Bool.{cases_lt, lt-ltb, le-ltb}
-use Rattle.std.proofs.lemmas.List.{append-nil, take_all, take-append-le, drop_more, get_or-map, get_or_default, length-map, take_rest, drop-map, take-map, replicate-append-replicate}
+use Rattle.std.proofs.lemmas.List.{append-nil, take_all, take-append-le, drop_more, get_or_default, take_rest, drop-map, take-map, replicate-append-replicate}
 use Rattle.std.proofs.lemmas.List.Folds.{flat_map-map}
 use Rattle.std.proofs.lemmas.List.Sums.{sum_by-cons, sum_by-take-le, sum_by_more}
 use Rattle.std.proofs.lemmas.Option.{slice_get-get_or}
-use Rattle.dsa_descriptor.specs.declared.descriptor.Descriptor.{Descriptor}
-use Rattle.dsa_descriptor.specs.Descriptors.{fields}
 use Rattle.dsa_descriptor.specs.Fields.{Fields}
 use Rattle.dsa_descriptor.specs.Spelling.{spelling}
-use Rattle.dsa_descriptor.proofs.Listed.{length-spelling}
 use Rattle.dsa_emission.specs.declared.place.Place.{Place}
 use Rattle.dsa_settings.specs.Plan.{Group, Plan, piece_count, start_of}
 use Rattle.dsa_settings.specs.Shapes.{HasGroupShapes}
 use Rattle.dsa_settings.specs.Settings.{Limits}
 use Rattle.dsa_descriptor.specs.Fences.{fenced}
-use Rattle.dsa_emission.specs.Emission.{is_batch, batched, batch_count, batched_count, place_of, place_after, batch_spelling, group_entry, fenced_pieces, group_staged, portal_of, staging_of, portal_entry, fenced_spelling, staged, joined}
+use Rattle.dsa_emission.specs.Emission.{is_batch, batched, batch_count, batched_count, place_of, place_after, batch_spelling, group_entry, fenced_pieces, group_staged, portal_of, staging_of, fenced_spelling, staged, joined}
 use Rattle.dsa_settings.proofs.Plans.{start_of-next}
 
 pub batch_yes : (g : Group) → 1 < length g → is_batch g ≡ true
@@ -81,7 +78,7 @@ groups_within greatest_batch (g ∷ rest) shapes =
 -- ---- pieces of any kind, by the bytes that spell each
 
 module _ (P : Type 0) (spell : P → List ℕ) where
-  group_batch : (s : Limits) (total : ℕ) (place : Place) (g : Group) (ps : List P) (p : P) → 1 < length g → 0 < length ps → length (spell p) ≡ 64 → p ≡ get_or ps 0 p →
+  pub group_batch : (s : Limits) (total : ℕ) (place : Place) (g : Group) (ps : List P) (p : P) → 1 < length g → 0 < length ps → length (spell p) ≡ 64 → p ≡ get_or ps 0 p →
       group_entry spell s total place g ps ≡ batch_spelling (take 4 (spell p)) (s.staging + 64 * total + 32 * place.batches) (s.staging + 64 * place.batched) (length g)
   group_batch s total place g [] p more some long is = absurd (omega arith)
   group_batch s total place g (x ∷ ps) p more some long is =
@@ -127,10 +124,10 @@ module _ (P : Type 0) (spell : P → List ℕ) where
       added ∙ (λ i. so_far i ++ written i) ∙ append_assoc before (fenced_pieces spell (take k g) ps) (fenced (get_or g k false) (spell p))
       ∙ ap (λ (bytes : List ℕ). before ++ bytes) (sym (fenced_more g ps k p lt within is))
 
-  batch_pieces : (place : Place) (g : Group) (ps : List P) → 1 < length g → group_staged spell place g ps ≡ fenced_pieces spell g (drop place.start ps)
+  pub batch_pieces : (place : Place) (g : Group) (ps : List P) → 1 < length g → group_staged spell place g ps ≡ fenced_pieces spell g (drop place.start ps)
   batch_pieces place g ps more = rw (batch_yes g more) refl
 
-  lone_pieces : (place : Place) (g : Group) (ps : List P) → (1 < length g → ⊥) → group_staged spell place g ps ≡ []
+  pub lone_pieces : (place : Place) (g : Group) (ps : List P) → (1 < length g → ⊥) → group_staged spell place g ps ≡ []
   lone_pieces place g ps few = rw (batch_no g few) refl
 
   -- the pieces of a batch, as the code cuts them out
@@ -139,19 +136,6 @@ module _ (P : Type 0) (spell : P → List ℕ) where
   batch_cut place g ps more = ap (fenced_pieces spell g) (take_rest ps place.start) ∙ sym (batch_pieces place g ps more)
 
 -- ---- pieces that are descriptors
-
-field_at : (ds : List Descriptor) (i : ℕ) (d : Descriptor) → i < length ds → d ≡ get_or ds i d → fields d ≡ get_or (map fields ds) i (fields d)
-field_at ds i d within is = ap fields is ∙ sym (get_or-map fields ds i d (fields d) within)
-
-pub entry_batch : (s : Limits) (total : ℕ) (place : Place) (g : Group) (ds : List Descriptor) (d : Descriptor) → 1 < length g → 0 < length ds → d ≡ get_or ds 0 d →
-    portal_entry s total place g (map fields ds) ≡ batch_spelling (take 4 (spelling (fields d))) (s.staging + 64 * total + 32 * place.batches) (s.staging + 64 * place.batched) (length g)
-entry_batch s total place g ds d more some is =
-    group_batch _ spelling s total place g (map fields ds) (fields d) more (omega (arith, length-map ds fields)) (length-spelling d) (field_at ds 0 d some is)
-
-pub entry_lone : (s : Limits) (total : ℕ) (place : Place) (g : Group) (ds : List Descriptor) (d : Descriptor) → length g ≡ 1 → place.start < length ds → d ≡ get_or ds place.start d →
-    portal_entry s total place g (map fields ds) ≡ spelling (fields d)
-entry_lone s total place g ds d one within is =
-    group_lone _ spelling s total place g (map fields ds) (fields d) one (omega (arith, length-map ds fields)) (field_at ds place.start d within is)
 
 pub batch_staged : (place : Place) (g : Group) (ps : List Fields) → 1 < length g → staged place g ps ≡ fenced_spelling g (drop place.start ps)
 batch_staged place g ps more = batch_pieces _ spelling place g ps more
@@ -162,7 +146,7 @@ lone_staged place g ps few = lone_pieces _ spelling place g ps few
 -- ---- pieces that are spelt by what they map to
 
 module _ (P Q : Type 0) (spell : Q → List ℕ) (h : P → Q) where
-  entry_map : (s : Limits) (total : ℕ) (place : Place) (g : Group) (ps : List P) → group_entry (λ p. spell (h p)) s total place g ps ≡ group_entry spell s total place g (map h ps)
+  pub entry_map : (s : Limits) (total : ℕ) (place : Place) (g : Group) (ps : List P) → group_entry (λ p. spell (h p)) s total place g ps ≡ group_entry spell s total place g (map h ps)
   entry_map s total place g ps =
       let all : flat_map (λ p. spell (h p)) ps ≡ flat_map spell (map h ps) = sym (flat_map-map spell h ps) in
       let cut : take (length g) (drop place.start (map h ps)) ≡ map h (take (length g) (drop place.start ps)) =
@@ -171,12 +155,12 @@ module _ (P Q : Type 0) (spell : Q → List ℕ) (h : P → Q) where
       sym (flat_map-map spell h (take (length g) (drop place.start ps))) ∙ ap (flat_map spell) (sym cut) in
       λ i. cond (is_batch g) (batch_spelling (take 4 (all i)) (s.staging + 64 * total + 32 * place.batches) (s.staging + 64 * place.batched) (length g)) (one i)
 
-  fenced_map : (g : Group) (ps : List P) → fenced_pieces (λ p. spell (h p)) g ps ≡ fenced_pieces spell g (map h ps)
+  pub fenced_map : (g : Group) (ps : List P) → fenced_pieces (λ p. spell (h p)) g ps ≡ fenced_pieces spell g (map h ps)
   fenced_map [] ps = refl
   fenced_map (x ∷ g) [] = refl
   fenced_map (x ∷ g) (p ∷ ps) = ap (λ (bytes : List ℕ). fenced x (spell (h p)) ++ bytes) (fenced_map g ps)
 
-  staged_map : (place : Place) (g : Group) (ps : List P) → group_staged (λ p. spell (h p)) place g ps ≡ group_staged spell place g (map h ps)
+  pub staged_map : (place : Place) (g : Group) (ps : List P) → group_staged (λ p. spell (h p)) place g ps ≡ group_staged spell place g (map h ps)
   staged_map place g ps =
       let cut : fenced_pieces (λ p. spell (h p)) g (drop place.start ps) ≡ fenced_pieces spell g (drop place.start (map h ps)) =
       fenced_map g (drop place.start ps) ∙ ap (fenced_pieces spell g) (sym (drop-map h place.start ps)) in

@@ -5,10 +5,11 @@ use Rattle.std.specs.List.{flat_map, zip}
 use Rattle.dsa_descriptor.specs.declared.span.Span.{Span}
 use Rattle.dsa_descriptor.specs.Fences.{fenced}
 use Rattle.dsa_descriptor.specs.Fields.{Fields}
-use Rattle.dsa_descriptor.specs.Lists.{HaveOneOwner}
+use Rattle.dsa_descriptor.specs.Lists.{AreOfOneOwner, HaveOneOwner}
 use Rattle.dsa_descriptor.specs.Spans.{InSpan}
 use Rattle.dsa_descriptor.specs.Spelling.{spelling}
 use Rattle.dsa_descriptor.specs.Pieces.{most_pieces}
+use Rattle.dsa_ranges.specs.Pieces.{Kind, TouchesAt}
 use Rattle.dsa_ranges.specs.Ranges.{Touches}
 use Rattle.dsa_emission.specs.declared.place.Place.{Place}
 use Rattle.dsa_settings.specs.Plan.{Group, Plan, piece_count, start_of}
@@ -126,3 +127,16 @@ pub record CanBeEmitted (s : Limits) (plan : Plan) (pieces : List Fields) : Type
   pub one_owner : HaveOneOwner pieces
   pub short : All (λ d. d.size ≤ s.greatest_transfer) pieces
   pub clear : All (λ d. (address : ℕ) → InSpan (staging_span s pieces) address → ¬ Touches d address) pieces
+
+-- what a plan and its pieces of a kind need to be emitted: the same, by the bytes that spell each, by its size, and by
+-- what it reads and writes
+pub record CanBeEmittedAs {P : Type 0} (kind : Kind P) (s : Limits) (plan : Plan) (pieces : List P) : Type 0 where
+  pub covers : piece_count plan ≡ length pieces
+  pub few : length pieces ≤ most_pieces
+  pub shapes : HasGroupShapes s.greatest_batch plan
+  pub one_owner : AreOfOneOwner kind.spelling pieces
+  pub short : All (λ p. kind.size p ≤ s.greatest_transfer) pieces
+  pub clear :
+      All
+      (λ p. (address : ℕ) → InSpan (staging_area s.staging (length pieces)) address → ¬ TouchesAt kind p address)
+      pieces

@@ -2,15 +2,13 @@
 use Rattle.std.specs.Prelude.{ℕ, ◌≡◌, ◌≢◌, ◌+◌, ◌*◌, ◌%◌, ◌<◌, ◌≤◌, Bool, true, false, List, [], ◌∷◌, Some, All, length, take, drop, map, count_by, sum_by, slice_get, slice_index, slice_index_or, ◌==◌, if◌then◌else◌}
 use Rattle.dsa_descriptor.specs.declared.descriptor.Descriptor.{Descriptor}
 use Rattle.dsa_descriptor.specs.Descriptors.{fields}
-use Rattle.dsa_descriptor.specs.Faults.{AreZero, IsFirstFault}
+use Rattle.dsa_descriptor.specs.Faults.{AreZero, IsFirstBreach}
 use Rattle.dsa_descriptor.specs.Fences.{is_fenced, unfenced}
-use Rattle.dsa_descriptor.specs.Fields.{Fields}
-use Rattle.dsa_descriptor.specs.Lists.{entries}
-use Rattle.dsa_descriptor.specs.Places.{u32_at, pasid_at, privileged_at}
+use Rattle.dsa_descriptor.specs.Lists.{entries, AgreeOnOwner}
+use Rattle.dsa_descriptor.specs.Places.{u32_at}
 use Rattle.dsa_descriptor.specs.Spans.{InSpan}
-use Rattle.dsa_descriptor.specs.Spelling.{spelling}
 use Rattle.dsa_descriptor.specs.Pieces.{most_pieces}
-use Rattle.dsa_ranges.specs.Ranges.{Touches}
+use Rattle.dsa_ranges.specs.Pieces.{Kind, TouchesAt, descriptors}
 use Rattle.dsa_emission.specs.declared.place.Place.{Place}
 use Rattle.dsa_emission.specs.declared.demands.Demands.{Demands}
 use Rattle.dsa_emission.specs.declared.emission_fault.EntryFault.{EntryFault}
@@ -20,7 +18,7 @@ use Rattle.dsa_emission.specs.declared.emission_fault.EmissionFault.TheVariants.
 use Rattle.dsa_settings.specs.Plan.{Group, Plan}
 use Rattle.dsa_settings.specs.Settings.{Limits}
 use Rattle.dsa_settings.specs.Staging.{staging_area}
-use Rattle.dsa_emission.specs.Emission.{batch_spelling, portal_bytes, staging_bytes, CanBeEmitted}
+use Rattle.dsa_emission.specs.Emission.{batch_spelling, portal_of, staging_of, portal_bytes, staging_bytes, CanBeEmitted, CanBeEmittedAs}
 
 -- ---- what entries say
 
@@ -79,56 +77,59 @@ demands_of s es staged =
       greatest = s.greatest_transfer;
     }
 
--- ---- one piece
+-- ---- one piece of a kind
 
--- without the fence, the bytes are the descriptor's
-abbrev pub Spells : List ℕ → Descriptor → Type 0
-Spells bytes d = unfenced bytes ≡ spelling (fields d)
+-- without the fence, the bytes are those of the piece
+abbrev pub Spells : {P : Type 0} → Kind P → List ℕ → P → Type 0
+Spells kind bytes p = unfenced bytes ≡ kind.spelling p
 
 -- the PASID and the privilege are those of the owner
-abbrev pub IsOwned : Demands → Fields → Type 0
-IsOwned demands f = (f.pasid ≡ pasid_at demands.owner) × (f.privileged ≡ privileged_at demands.owner)
+abbrev pub IsOwned : {P : Type 0} → Kind P → Demands → P → Type 0
+IsOwned kind demands p = AgreeOnOwner demands.owner (kind.spelling p)
 
 -- no piece is too long, of another owner, or touches the staging area
-pub record IsFit (demands : Demands) (f : Fields) : Type 0 where
-  pub short : f.size ≤ demands.greatest
-  pub owned : IsOwned demands f
-  pub clear : (address : ℕ) → InSpan demands.area address → ¬ Touches f address
+pub record IsFit {P : Type 0} (kind : Kind P) (demands : Demands) (p : P) : Type 0 where
+  pub short : kind.size p ≤ demands.greatest
+  pub owned : IsOwned kind demands p
+  pub clear : (address : ℕ) → InSpan demands.area address → ¬ TouchesAt kind p address
 
 -- the first fault of the bytes of a piece: of its fields, then its size, its owner, and the staging area
-abbrev pub IsFirstEntryFault : Demands → List ℕ → EntryFault → Type 0
-IsFirstEntryFault demands bytes (Field fault) = IsFirstFault (unfenced bytes) fault
-IsFirstEntryFault demands bytes OverTransfer = (d : Descriptor) × Spells bytes d × (demands.greatest < d.size)
-IsFirstEntryFault demands bytes MixedPasid = (d : Descriptor) × Spells bytes d × (d.size ≤ demands.greatest) × ¬ IsOwned demands (fields d)
-IsFirstEntryFault demands bytes StagingMeets =
-    (d : Descriptor) × Spells bytes d × (d.size ≤ demands.greatest) × IsOwned demands (fields d) ×
-    ((address : ℕ) × InSpan demands.area address × Touches (fields d) address)
+abbrev pub IsFirstEntryFault : {P : Type 0} → Kind P → Demands → List ℕ → EntryFault → Type 0
+IsFirstEntryFault {P} kind demands bytes (Field fault) = IsFirstBreach kind.keeps (unfenced bytes) fault
+IsFirstEntryFault {P} kind demands bytes OverTransfer = (p : P) × Spells kind bytes p × (demands.greatest < kind.size p)
+IsFirstEntryFault {P} kind demands bytes MixedPasid =
+    (p : P) × Spells kind bytes p × (kind.size p ≤ demands.greatest) × ¬ IsOwned kind demands p
+IsFirstEntryFault {P} kind demands bytes StagingMeets =
+    (p : P) × Spells kind bytes p × (kind.size p ≤ demands.greatest) × IsOwned kind demands p ×
+    ((address : ℕ) × InSpan demands.area address × TouchesAt kind p address)
 
 -- ---- one group, by the bytes of its pieces
 
--- piece k is a descriptor that is fit, and it is not fenced if it is the first
-pub record IsSoundPiece (demands : Demands) (bytes : ℕ → List ℕ) (k : ℕ) : Type 0 where
+-- piece k is spelt and fit, and it is not fenced if it is the first
+pub record IsSoundPiece {P : Type 0} (kind : Kind P) (demands : Demands) (bytes : ℕ → List ℕ) (k : ℕ) : Type 0 where
   pub first_unfenced : k ≡ 0 → is_fenced (bytes k) ≡ false
-  pub piece : Descriptor
-  pub spelt : Spells (bytes k) piece
-  pub fit : IsFit demands (fields piece)
+  pub piece : P
+  pub spelt : Spells kind (bytes k) piece
+  pub fit : IsFit kind demands piece
 
 -- piece k is the first that is not sound, with its fault; a fence on the first piece is another fault
-pub record IsFirstPieceFault (demands : Demands) (bytes : ℕ → List ℕ) (k : ℕ) (fault : EntryFault) : Type 0 where
-  pub before : (j : ℕ) → j < k → IsSoundPiece demands bytes j
+pub record IsFirstPieceFault {P : Type 0} (kind : Kind P) (demands : Demands) (bytes : ℕ → List ℕ) (k : ℕ)
+    (fault : EntryFault) : Type 0 where
+  pub before : (j : ℕ) → j < k → IsSoundPiece kind demands bytes j
   pub first_unfenced : k ≡ 0 → is_fenced (bytes k) ≡ false
-  pub stands : IsFirstEntryFault demands (bytes k) fault
+  pub stands : IsFirstEntryFault kind demands (bytes k) fault
 
 -- the fault is the first in the group of that number, which begins with piece `start`
-abbrev pub IsFirstGroupFault : Demands → (ℕ → List ℕ) → ℕ → ℕ → ℕ → EmissionFault → Type 0
-IsFirstGroupFault demands bytes number start size (EntryFence g) = (g ≡ number) × (0 < size) × (is_fenced (bytes 0) ≡ true)
-IsFirstGroupFault demands bytes number start size (Entry q fault) =
-    (k : ℕ) × (q ≡ start + k) × (k < size) × IsFirstPieceFault demands bytes k fault
-IsFirstGroupFault demands bytes number start size PortalLength = ⊥
-IsFirstGroupFault demands bytes number start size StagingLength = ⊥
-IsFirstGroupFault demands bytes number start size (BatchFields group) = ⊥
-IsFirstGroupFault demands bytes number start size (RecordBytes batch) = ⊥
-IsFirstGroupFault demands bytes number start size Memory = ⊥
+abbrev pub IsFirstGroupFault : {P : Type 0} → Kind P → Demands → (ℕ → List ℕ) → ℕ → ℕ → ℕ → EmissionFault → Type 0
+IsFirstGroupFault kind demands bytes number start size (EntryFence g) =
+    (g ≡ number) × (0 < size) × (is_fenced (bytes 0) ≡ true)
+IsFirstGroupFault kind demands bytes number start size (Entry q fault) =
+    (k : ℕ) × (q ≡ start + k) × (k < size) × IsFirstPieceFault kind demands bytes k fault
+IsFirstGroupFault kind demands bytes number start size PortalLength = ⊥
+IsFirstGroupFault kind demands bytes number start size StagingLength = ⊥
+IsFirstGroupFault kind demands bytes number start size (BatchFields group) = ⊥
+IsFirstGroupFault kind demands bytes number start size (RecordBytes batch) = ⊥
+IsFirstGroupFault kind demands bytes number start size Memory = ⊥
 
 -- ---- the whole
 
@@ -174,23 +175,26 @@ pub record HasBatches (s : Limits) (portal staging : List ℕ) : Type 0 where
   pub right : (number : ℕ) → number < length (entries portal) → IsRightAt s (entries portal) (owner_of portal staging) number
 
 -- each piece of that group is sound
-abbrev pub IsSoundGroup : Demands → List (List ℕ) → List (List ℕ) → ℕ → Type 0
-IsSoundGroup demands es staged number =
-    (k : ℕ) → k < entry_size (slice_index_or es number []) → IsSoundPiece demands (piece_bytes es staged number) k
+abbrev pub IsSoundGroup : {P : Type 0} → Kind P → Demands → List (List ℕ) → List (List ℕ) → ℕ → Type 0
+IsSoundGroup kind demands es staged number =
+    (k : ℕ) → k < entry_size (slice_index_or es number []) → IsSoundPiece kind demands (piece_bytes es staged number) k
 
 -- each piece of the groups before one is sound, and this is the first fault of that group
-pub record IsFirstPortalFault (demands : Demands) (es staged : List (List ℕ)) (fault : EmissionFault) : Type 0 where
+pub record IsFirstPortalFault {P : Type 0} (kind : Kind P) (demands : Demands) (es staged : List (List ℕ))
+    (fault : EmissionFault) : Type 0 where
   pub number : ℕ
   pub inside : number < length es
-  pub before : (g : ℕ) → g < number → IsSoundGroup demands es staged g
+  pub before : (g : ℕ) → g < number → IsSoundGroup kind demands es staged g
   pub stands :
-      IsFirstGroupFault demands (piece_bytes es staged number) number (place_before es number).start
+      IsFirstGroupFault kind demands (piece_bytes es staged number) number (place_before es number).start
       (entry_size (slice_index_or es number [])) fault
 
 -- the batches are right, and so is each piece
-pub record HasPieces (s : Limits) (portal staging : List ℕ) : Type 0 where
+pub record HasPieces {P : Type 0} (kind : Kind P) (s : Limits) (portal staging : List ℕ) : Type 0 where
   pub batches : HasBatches s portal staging
-  pub sound : (g : ℕ) → g < length (entries portal) → IsSoundGroup (demands_of s (entries portal) (entries staging)) (entries portal) (entries staging) g
+  pub sound :
+      (g : ℕ) → g < length (entries portal) →
+      IsSoundGroup kind (demands_of s (entries portal) (entries staging)) (entries portal) (entries staging) g
 
 -- the 32 record bytes of that batch, after the descriptors of the staging area, are zero
 abbrev pub HasZeroRecord : List ℕ → ℕ → Type 0
@@ -200,28 +204,42 @@ HasZeroRecord records batch = AreZero (take 32 (drop (32 * batch) records))
 abbrev pub records_of : List ℕ → List ℕ → List ℕ
 records_of portal staging = drop (64 * (place_at_end (entries portal)).batched) staging
 
--- the first fault of the bytes, in this order: the length of the portal and that of the staging area, the entries of
--- batches, the pieces in order, the records of batches. Out of memory is reported once the entries of batches are right
--- (this project's choice)
-abbrev pub IsFirstEmissionFault : Limits → List ℕ → List ℕ → EmissionFault → Type 0
-IsFirstEmissionFault s portal staging PortalLength = IsFirstLengthFault portal staging PortalLength
-IsFirstEmissionFault s portal staging StagingLength = IsFirstLengthFault portal staging StagingLength
-IsFirstEmissionFault s portal staging (BatchFields number) =
+-- the first fault of the bytes as an emission of pieces of a kind, in this order: the length of the portal and that of
+-- the staging area, the entries of batches, the pieces in order, the records of batches. Out of memory is reported once
+-- the entries of batches are right (this project's choice)
+abbrev pub IsFirstEmissionFaultAs : {P : Type 0} → Kind P → Limits → List ℕ → List ℕ → EmissionFault → Type 0
+IsFirstEmissionFaultAs kind s portal staging PortalLength = IsFirstLengthFault portal staging PortalLength
+IsFirstEmissionFaultAs kind s portal staging StagingLength = IsFirstLengthFault portal staging StagingLength
+IsFirstEmissionFaultAs kind s portal staging (BatchFields number) =
     HasLengths portal staging × (number < length (entries portal)) ×
     ((g : ℕ) → g < number → IsRightAt s (entries portal) (owner_of portal staging) g) ×
     ¬ IsRightAt s (entries portal) (owner_of portal staging) number
-IsFirstEmissionFault s portal staging (EntryFence number) =
+IsFirstEmissionFaultAs kind s portal staging (EntryFence number) =
     HasBatches s portal staging ×
-    IsFirstPortalFault (demands_of s (entries portal) (entries staging)) (entries portal) (entries staging) (EntryFence number)
-IsFirstEmissionFault s portal staging (Entry q fault) =
+    IsFirstPortalFault kind (demands_of s (entries portal) (entries staging)) (entries portal) (entries staging)
+    (EntryFence number)
+IsFirstEmissionFaultAs kind s portal staging (Entry q fault) =
     HasBatches s portal staging ×
-    IsFirstPortalFault (demands_of s (entries portal) (entries staging)) (entries portal) (entries staging) (Entry q fault)
-IsFirstEmissionFault s portal staging (RecordBytes batch) =
-    HasPieces s portal staging × (batch < (place_at_end (entries portal)).batches) ×
-    ((b : ℕ) → b < batch → HasZeroRecord (records_of portal staging) b) × ¬ HasZeroRecord (records_of portal staging) batch
-IsFirstEmissionFault s portal staging Memory = HasBatches s portal staging
+    IsFirstPortalFault kind (demands_of s (entries portal) (entries staging)) (entries portal) (entries staging)
+    (Entry q fault)
+IsFirstEmissionFaultAs kind s portal staging (RecordBytes batch) =
+    HasPieces kind s portal staging × (batch < (place_at_end (entries portal)).batches) ×
+    ((b : ℕ) → b < batch → HasZeroRecord (records_of portal staging) b) ×
+    ¬ HasZeroRecord (records_of portal staging) batch
+IsFirstEmissionFaultAs kind s portal staging Memory = HasBatches s portal staging
 
--- the bytes are the emission of a plan and its pieces, which can be emitted
+-- the first fault of the bytes as an emission of descriptors
+abbrev pub IsFirstEmissionFault : Limits → List ℕ → List ℕ → EmissionFault → Type 0
+IsFirstEmissionFault s portal staging fault = IsFirstEmissionFaultAs descriptors s portal staging fault
+
+-- the bytes are the emission of a plan and its pieces of a kind, which can be emitted
+pub record IsEmissionAs {P : Type 0} (kind : Kind P) (s : Limits) (portal staging : List ℕ) (plan : Plan)
+    (ps : List P) : Type 0 where
+  pub can_be : CanBeEmittedAs kind s plan ps
+  pub portal_is : portal ≡ portal_of kind.spelling s plan ps
+  pub staging_is : staging ≡ staging_of kind.spelling plan ps
+
+-- the bytes are the emission of a plan and its descriptors, which can be emitted
 pub record IsEmission (s : Limits) (portal staging : List ℕ) (plan : Plan) (ds : List Descriptor) : Type 0 where
   pub can_be : CanBeEmitted s plan (map fields ds)
   pub portal_is : portal ≡ portal_bytes s plan (map fields ds)
@@ -229,25 +247,29 @@ pub record IsEmission (s : Limits) (portal staging : List ℕ) (plan : Plan) (ds
 
 -- ---- what was read
 
--- a group and its pieces so far are what these bytes say: each fence, and each descriptor, which is fit
-pub record IsGroupRead (demands : Demands) (bytes : ℕ → List ℕ) (size : ℕ) (group : Group) (ds : List Descriptor) : Type 0 where
+-- a group and its pieces so far are what these bytes say: each fence, and each piece, which is fit
+pub record IsGroupRead {P : Type 0} (kind : Kind P) (demands : Demands) (bytes : ℕ → List ℕ) (size : ℕ)
+    (group : Group) (ps : List P) : Type 0 where
   pub fences : length group ≡ size
-  pub pieces : length ds ≡ size
+  pub pieces : length ps ≡ size
   pub first_unfenced : is_fenced (bytes 0) ≡ false
   pub each :
-      (k : ℕ) (fence : Bool) (d : Descriptor) → slice_get group k ≡ Some fence → slice_get ds k ≡ Some d →
-      (fence ≡ is_fenced (bytes k)) × Spells (bytes k) d
-  pub fit : All (IsFit demands) (map fields ds)
+      (k : ℕ) (fence : Bool) (p : P) → slice_get group k ≡ Some fence → slice_get ps k ≡ Some p →
+      (fence ≡ is_fenced (bytes k)) × Spells kind (bytes k) p
+  pub fit : All (IsFit kind demands) ps
 
 -- a plan and its pieces are what that many entries say
-pub record IsRead (demands : Demands) (es staged : List (List ℕ)) (count : ℕ) (plan : Plan) (ds : List Descriptor) : Type 0 where
+pub record IsRead {P : Type 0} (kind : Kind P) (demands : Demands) (es staged : List (List ℕ)) (count : ℕ)
+    (plan : Plan) (ps : List P) : Type 0 where
   pub groups : length plan ≡ count
-  pub pieces : length ds ≡ (place_before es count).start
-  pub sizes : (number : ℕ) (group : Group) → slice_get plan number ≡ Some group → length group ≡ entry_size (slice_index_or es number [])
+  pub pieces : length ps ≡ (place_before es count).start
+  pub sizes :
+      (number : ℕ) (group : Group) → slice_get plan number ≡ Some group →
+      length group ≡ entry_size (slice_index_or es number [])
   pub each :
-      (number : ℕ) (group : Group) (k : ℕ) (fence : Bool) (d : Descriptor) → slice_get plan number ≡ Some group →
-      slice_get group k ≡ Some fence → slice_get ds ((place_before es number).start + k) ≡ Some d →
-      (fence ≡ is_fenced (piece_bytes es staged number k)) × Spells (piece_bytes es staged number k) d
+      (number : ℕ) (group : Group) (k : ℕ) (fence : Bool) (p : P) → slice_get plan number ≡ Some group →
+      slice_get group k ≡ Some fence → slice_get ps ((place_before es number).start + k) ≡ Some p →
+      (fence ≡ is_fenced (piece_bytes es staged number k)) × Spells kind (piece_bytes es staged number k) p
   pub firsts : (number : ℕ) → number < count → is_fenced (piece_bytes es staged number 0) ≡ false
-  pub fit : All (IsFit demands) (map fields ds)
-  pub sound : (number : ℕ) → number < count → IsSoundGroup demands es staged number
+  pub fit : All (IsFit kind demands) ps
+  pub sound : (number : ℕ) → number < count → IsSoundGroup kind demands es staged number

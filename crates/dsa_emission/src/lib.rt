@@ -12,4 +12,4 @@ mod reading;
 pub use emission::{Emission, emit, emit_entries};
 pub use emission_fault::{EmissionFault, EntryFault};
 pub use laws::{emission_at_places, one_emission};
-pub use reading::read_emission;
+pub use reading::{read_emission, read_submitted};

@@ -2,13 +2,13 @@
 
 ghost use Rattle.std.specs.Prelude.{◌≡◌, ◌≢◌, ℕ, true, ◌+◌, ◌*◌, ◌<◌, ◌≤◌, ◌⊎◌, ◌↔◌, ◌++◌, List, [], length, slice_index_or, IsTrue, IfOk, IfErr, MatchResult, Bool};
 ghost use Rattle.dsa_descriptor.specs.declared.descriptor.Descriptor.{Descriptor};
-ghost use Rattle.dsa_descriptor.specs.Descriptors.{fields};
-ghost use Rattle.dsa_descriptor.specs.Spans.{InSpan};
+ghost use Rattle.dsa_descriptor.specs.Lists.{AgreeOnOwner};
+ghost use Rattle.dsa_descriptor.specs.Spans.{InSome, InSpan};
 ghost use Rattle.dsa_descriptor.specs.Pieces.{most_pieces};
-ghost use Rattle.dsa_ranges.specs.Ranges.{Touches};
+ghost use Rattle.dsa_ranges.specs.Pieces.{kind_of};
 ghost use Rattle.dsa_emission.specs.declared.emission_fault.EmissionFault.{EmissionFault};
 ghost use Rattle.dsa_emission.specs.declared.emission_fault.EmissionFault.TheVariants.{Memory};
-ghost use Rattle.dsa_emission.specs.EmissionFaults.{is_batch_entry, entry_size, bytes_at, Spells, IsOwned, IsFit, IsFirstEntryFault, IsFirstGroupFault, IsFirstPortalFault, IsGroupRead, IsRead, place_at_end, IsEmission, IsFirstEmissionFault};
+ghost use Rattle.dsa_emission.specs.EmissionFaults.{is_batch_entry, entry_size, bytes_at, Spells, IsFit, IsFirstEntryFault, IsFirstGroupFault, IsFirstPortalFault, IsGroupRead, IsRead, place_at_end, IsEmission, IsEmissionAs, IsFirstEmissionFault, IsFirstEmissionFaultAs};
 
 use crate::demands::Demands;
 use crate::emission_fault::{EmissionFault, EntryFault};
@@ -17,25 +17,26 @@ use crate::portal::{
     after_entry, end_of_portal, entry_size, first_owner, is_batch_entry, wrong_batch, wrong_record,
 };
 use dsa_descriptor::{Descriptor, Span, is_fenced, unfenced};
-use dsa_ranges::{meets_some, touched};
+use dsa_ranges::{Piece, meets_some};
 use dsa_settings::{Group, Plan, STAGED_LEN, Settings};
 use std::alloc::Global;
 
-/// Whether the descriptor has the PASID and the privilege of these bytes.
+/// Whether the bytes of a piece have the PASID and the privilege that are demanded.
 #[tactic(auto, unfolding(dsa_descriptor::specs::Places::u32_at))]
-fn is_owned(piece: &Descriptor, demands: &Demands) -> bool
-    ensures { IsTrue result ↔ IsOwned demands.now (fields piece.now) }
+fn is_owned(bytes: &[u8; 64], demands: &Demands) -> bool
+    ensures { IsTrue result ↔ AgreeOnOwner demands.now.owner bytes.now }
 {
-    let word = u32::from_le_bytes(demands.owner);
-    piece.pasid == word % (1 << 20) && piece.privileged == (word >> 31 == 1)
+    let owner = u32::from_le_bytes(demands.owner);
+    let own = u32::from_le_bytes([bytes[0], bytes[1], bytes[2], bytes[3]]);
+    owner % (1 << 20) == own % (1 << 20) && (owner >> 31 == 1) == (own >> 31 == 1)
 }
 
-/// Whether the descriptor reads or writes an address of the area.
-fn touches(piece: &Descriptor, area: Span) -> bool
-    ensures { IsTrue result ↔
-        ((address : ℕ) × InSpan area address × Touches (fields piece.now) address) }
+/// Whether the piece reads or writes an address of the area.
+fn touches<P: Piece>(piece: &P, area: Span) -> bool
+    ensures { IsTrue result ↔ ((address : ℕ) × InSpan area address ×
+        (InSome (P.reads piece.now) address ⊎ InSome (P.writes piece.now) address)) }
 {
-    let touched = touched(piece);
+    let touched = piece.touched_spans();
     if meets_some(area, &touched.reads) {
         return true;
     }
@@ -43,16 +44,18 @@ fn touches(piece: &Descriptor, area: Span) -> bool
 }
 
 /// The piece that the bytes spell, fenced or not, if it meets the demands.
-fn read_piece(bytes: &[u8; 64], demands: &Demands) -> Result<Descriptor, EntryFault>
-    ensures found { IfOk result (λ piece. Spells bytes.now piece ×
-        IsFit demands.now (fields piece)) }
-    ensures fault { IfErr result (IsFirstEntryFault demands.now bytes.now) }
+fn read_piece<P: Piece>(bytes: &[u8; 64], demands: &Demands) -> Result<P, EntryFault>
+    ensures found { let kind = kind_of P.spelling P.keeps P.size P.reads P.writes in
+        IfOk result (λ piece. Spells kind bytes.now piece × IsFit kind demands.now piece) }
+    ensures fault { let kind = kind_of P.spelling P.keeps P.size P.reads P.writes in
+        IfErr result (IsFirstEntryFault kind demands.now bytes.now) }
 {
-    let piece = Descriptor::read(&unfenced(bytes))?;
-    if u64::from(piece.size) > demands.greatest {
+    let plain = unfenced(bytes);
+    let piece = P::read_entry(&plain)?;
+    if u64::from(piece.transfer_size()) > demands.greatest {
         return Err(EntryFault::OverTransfer);
     }
-    if !is_owned(&piece, demands) {
+    if !is_owned(&plain, demands) {
         return Err(EntryFault::MixedPasid);
     }
     if touches(&piece, demands.area) {
@@ -79,9 +82,9 @@ fn piece_bytes<'a>(
 }
 
 /// Reads the group with this entry, and adds its pieces.
-fn read_group(
+fn read_group<P: Piece>(
     alloc: Global,
-    pieces: &mut Vec<Descriptor>,
+    pieces: &mut Vec<P>,
     number: usize,
     place: Place,
     entry: &[u8; 64],
@@ -92,10 +95,12 @@ fn read_group(
     requires few { place.start + entry_size entry.now ≤ most_pieces }
     requires inside { is_batch_entry entry.now ≡ true →
         place.batched + entry_size entry.now ≤ length staged.now }
-    ensures ok { IfOk result (λ group. (ds : List Descriptor) ×
-        (pieces.new.items ≡ pieces.old.items ++ ds) × IsGroupRead demands.now
-        (bytes_at staged.now place entry.now) (entry_size entry.now) group ds) }
-    ensures err { IfErr result (λ fault. (fault ≡ Memory) ⊎ IsFirstGroupFault demands.now
+    ensures ok { let kind = kind_of P.spelling P.keeps P.size P.reads P.writes in
+        IfOk result (λ group. (ps : List P) × (pieces.new.items ≡ pieces.old.items ++ ps) ×
+        IsGroupRead kind demands.now
+        (bytes_at staged.now place entry.now) (entry_size entry.now) group ps) }
+    ensures err { let kind = kind_of P.spelling P.keeps P.size P.reads P.writes in
+        IfErr result (λ fault. (fault ≡ Memory) ⊎ IsFirstGroupFault kind demands.now
         (bytes_at staged.now place entry.now) number place.start (entry_size entry.now) fault) }
 {
     if is_fenced(piece_bytes(staged, place, entry, 0)) {
@@ -116,19 +121,20 @@ fn read_group(
 }
 
 /// The plan and the pieces of entries that are right.
-fn read_groups(
+fn read_groups<P: Piece>(
     alloc: Global,
     all: &[[u8; 64]],
     staged: &[[u8; 64]],
     demands: &Demands,
-) -> Result<(Plan, Vec<Descriptor>), EmissionFault>
+) -> Result<(Plan, Vec<P>), EmissionFault>
     requires few { (place_at_end all.now).start ≤ most_pieces }
     requires inside { (place_at_end all.now).batched ≤ length staged.now }
     requires sized { (g : ℕ) → g < length all.now → 0 < entry_size (slice_index_or all.now g []) }
-    ensures ok { IfOk result
-        (λ read. IsRead demands.now all.now staged.now (length all.now) read.0 read.1.items) }
-    ensures err { IfErr result (λ fault. (fault ≡ Memory) ⊎
-        IsFirstPortalFault demands.now all.now staged.now fault) }
+    ensures ok { let kind = kind_of P.spelling P.keeps P.size P.reads P.writes in IfOk result
+        (λ read. IsRead kind demands.now all.now staged.now (length all.now) read.0 read.1.items) }
+    ensures err { let kind = kind_of P.spelling P.keeps P.size P.reads P.writes in
+        IfErr result (λ fault. (fault ≡ Memory) ⊎
+        IsFirstPortalFault kind demands.now all.now staged.now fault) }
 {
     let mut groups = Vec::with_capacity(alloc, all.len())?;
     let mut pieces = Vec::new(alloc);
@@ -139,6 +145,56 @@ fn read_groups(
         place = after_entry(place, entry);
     }
     Ok((Plan::new(groups), pieces))
+}
+
+/// The plan and the pieces that these bytes submit. The bytes are read exactly if they are what
+/// [`emit_entries`](crate::emit_entries) makes of a plan and pieces of that kind.
+///
+/// # Errors
+/// The first of these: [`EmissionFault::PortalLength`]; [`EmissionFault::StagingLength`]; for the least group
+/// [`EmissionFault::BatchFields`]; for the least piece [`EmissionFault::EntryFence`], or else
+/// [`EmissionFault::Entry`] with its first fault; for the least batch [`EmissionFault::RecordBytes`]. Once the entries
+/// of batches are right, [`EmissionFault::Memory`] is reported if an allocation fails, before the faults not yet found.
+pub fn read_submitted<P: Piece>(
+    alloc: Global,
+    portal: &[u8],
+    staging: &[u8],
+    settings: &Settings,
+) -> Result<(Plan, Vec<P>), EmissionFault>
+    ensures found { let kind = kind_of P.spelling P.keeps P.size P.reads P.writes in IfOk result
+        (λ read. IsEmissionAs kind settings.now portal.now staging.now read.0 read.1.items) }
+    ensures only { let kind = kind_of P.spelling P.keeps P.size P.reads P.writes in
+        (plan : List (List Bool)) (ps : List P) →
+        IsEmissionAs kind settings.now portal.now staging.now plan ps → MatchResult result
+        (λ read. (read.0 ≡ plan) × (read.1.items ≡ ps)) (λ fault. fault ≡ Memory) }
+    ensures fault { let kind = kind_of P.spelling P.keeps P.size P.reads P.writes in
+        IfErr result (IsFirstEmissionFaultAs kind settings.now portal.now staging.now) }
+    ensures refused { let kind = kind_of P.spelling P.keeps P.size P.reads P.writes in
+        (fault : EmissionFault) → fault ≢ Memory →
+        IsFirstEmissionFaultAs kind settings.now portal.now staging.now fault →
+        MatchResult result (λ _. ⊥) (λ told. (told ≡ fault) ⊎ (told ≡ Memory)) }
+{
+    P::are_entries();
+    let end = end_of_portal(portal, staging)?;
+    let (all, _) = portal.as_chunks::<64>();
+    let (staged, _) = staging.as_chunks::<64>();
+    let owner = first_owner(all, staged);
+    if let Some(number) = wrong_batch(all, end.batched, &owner, settings) {
+        return Err(EmissionFault::BatchFields(number));
+    }
+    let demands = Demands {
+        owner,
+        area: Span {
+            first: settings.staging(),
+            len: STAGED_LEN * end.start as u64,
+        },
+        greatest: settings.greatest_transfer(),
+    };
+    let read = read_groups(alloc, all, staged, &demands)?;
+    if let Some(batch) = wrong_record(&staging[64 * end.batched..], end.batches) {
+        return Err(EmissionFault::RecordBytes(batch));
+    }
+    Ok(read)
 }
 
 /// The plan and the pieces that these bytes submit. The bytes are read exactly if they are what [`emit`](crate::emit)
@@ -165,24 +221,5 @@ pub fn read_emission(
         fault ≢ Memory → IsFirstEmissionFault settings.now portal.now staging.now fault →
         MatchResult result (λ _. ⊥) (λ told. (told ≡ fault) ⊎ (told ≡ Memory)) }
 {
-    let end = end_of_portal(portal, staging)?;
-    let (all, _) = portal.as_chunks::<64>();
-    let (staged, _) = staging.as_chunks::<64>();
-    let owner = first_owner(all, staged);
-    if let Some(number) = wrong_batch(all, end.batched, &owner, settings) {
-        return Err(EmissionFault::BatchFields(number));
-    }
-    let demands = Demands {
-        owner,
-        area: Span {
-            first: settings.staging(),
-            len: STAGED_LEN * end.start as u64,
-        },
-        greatest: settings.greatest_transfer(),
-    };
-    let read = read_groups(alloc, all, staged, &demands)?;
-    if let Some(batch) = wrong_record(&staging[64 * end.batched..], end.batches) {
-        return Err(EmissionFault::RecordBytes(batch));
-    }
-    Ok(read)
+    read_submitted(alloc, portal, staging, settings)
 }

@@ -19,11 +19,10 @@ use Rattle.dsa_descriptor.specs.Faults.{IsFirstFault, Keeps}
 use Rattle.dsa_descriptor.specs.Lists.{entries}
 use Rattle.dsa_descriptor.specs.Spelling.{spelling}
 use Rattle.dsa_descriptor.proofs.Rules.{first_is_one}
-use Rattle.dsa_descriptor.proofs.Listed.{fault_only}
+use Rattle.dsa_descriptor.proofs.Listed.{code_told, fault_only}
 use Rattle.dsa_descriptor.proofs.Same.{one_spelling, same_descriptor}
 use Rattle.dsa_emission.specs.declared.emission_fault.EmissionFault.TheVariants.{PortalLength}
 use Rattle.dsa_emission.specs.EmissionFaults.{is_batch_entry}
-use Rattle.dsa_emission.proofs.Told.{code_told}
 use Rattle.dsa_lines.specs.declared.fault.EmittedFault.{EmittedFault}
 use Rattle.dsa_lines.specs.declared.fault.EmittedFault.TheVariants.{Memory}
 use Rattle.dsa_lines.specs.Words.{Word, words_of}

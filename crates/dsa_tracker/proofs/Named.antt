@@ -13,7 +13,8 @@ use Rattle.dsa_emission.specs.declared.place.Place.{Place}
 use Rattle.dsa_emission.specs.Emission.{batch_spelling, batched_count, is_batch, place_of}
 use Rattle.dsa_emission.specs.EmissionFaults.{is_batch_entry}
 use Rattle.dsa_emission.proofs.Places.{batch_no, batch_yes, counts_within}
-use Rattle.dsa_emission.proofs.Told.{Fits, batch_code_told, batch_entry_is, code_told, count_told, fits_at, lone_entry_is}
+use Rattle.dsa_descriptor.proofs.Listed.{code_told}
+use Rattle.dsa_emission.proofs.Told.{Fits, batch_code_told, batch_entry_is, count_told, fits_at, lone_entry_is}
 use Rattle.dsa_settings.specs.Plan.{Group}
 use Rattle.dsa_tracker.specs.Groups.{GroupsStageWhatEntriesName, group_at, group_staging, named_spans}
 use Rattle.dsa_tracker.proofs.Grouped.{batch_within}

@@ -14,7 +14,10 @@ use Rattle.dsa_plan.specs.EmissionFaults.{IsEmission, IsFirstEmissionFault}
 use Rattle.dsa_emission.specs.declared.emission_fault.EmissionFault.{EmissionFault}
 use Rattle.dsa_emission.specs.Causes.{emission_is_memory}
 use Rattle.dsa_emission.proofs.OneFault.{one_fault, none_to_tell}
+use Rattle.dsa_descriptor.proofs.Listed.{are_entries}
+use Rattle.dsa_emission.proofs.OfDescriptors.{emission_as}
 use Rattle.dsa_emission.proofs.Told.{one_emission}
+use Rattle.dsa_ranges.specs.Pieces.{descriptors}
 use Rattle.dsa_plan.proofs.Steps.{yes_means_least}
 use Rattle.dsa_plan.specs.Certificate.{Contents}
 use Rattle.dsa_checker.specs.declared.fault.CheckFault.{CheckFault}
@@ -69,9 +72,9 @@ same_emission s portal staging plan plan' ds ds' e e' =
 
 pub one_checked : OneChecked
 one_checked portal staging s c o p (inl (f, nf, first, is)) (inl (g, ng, first', is')) =
-    is ∙ ap (λ (x : EmissionFault). Err (Emission x)) (one_fault s portal staging f g nf ng first first') ∙ sym is'
-one_checked portal staging s c o p (inl (f, nf, first, is)) (inr (plan, ds, emission, checks)) = absurd (none_to_tell s portal staging plan ds f emission nf first)
-one_checked portal staging s c o p (inr (plan, ds, emission, checks)) (inl (g, ng, first', is')) = absurd (none_to_tell s portal staging plan ds g emission ng first')
+    is ∙ ap (λ (x : EmissionFault). Err (Emission x)) (one_fault Descriptor descriptors are_entries s portal staging f g nf ng first first') ∙ sym is'
+one_checked portal staging s c o p (inl (f, nf, first, is)) (inr (plan, ds, emission, checks)) = absurd (none_to_tell Descriptor descriptors are_entries s portal staging plan ds f (emission_as s portal staging plan ds emission) nf first)
+one_checked portal staging s c o p (inr (plan, ds, emission, checks)) (inl (g, ng, first', is')) = absurd (none_to_tell Descriptor descriptors are_entries s portal staging plan ds g (emission_as s portal staging plan ds emission) ng first')
 one_checked portal staging s c o p (inr (plan, ds, emission, checks)) (inr (plan', ds', emission', checks')) =
     let same = same_emission s portal staging plan plan' ds ds' emission emission' in
     let with_plan = subst (λ (x : Plan). ChecksPlan s (map fields ds') x c p) (sym same.0) checks' in
@@ -90,7 +93,7 @@ plan_checked portal staging s c plan ds o emission checks = go o (inr (plan, ds,
 -- what checking says of bytes that submit a plan it says of the plan
 pub said_of_plan : (portal staging : List ℕ) (s : Limits) (c : Contents) (plan : Plan) (ds : List Descriptor) (o : Result ℕ PlanFault) → IsEmission s portal staging plan ds
     → Checks portal staging s c o → ChecksPlan s (map fields ds) plan c o
-said_of_plan portal staging s c plan ds o emission (inl (fault, other, first, is)) = absurd (none_to_tell s portal staging plan ds fault emission other first)
+said_of_plan portal staging s c plan ds o emission (inl (fault, other, first, is)) = absurd (none_to_tell Descriptor descriptors are_entries s portal staging plan ds fault (emission_as s portal staging plan ds emission) other first)
 said_of_plan portal staging s c plan ds o emission (inr (plan', ds', emission', checks)) =
     let same = same_emission s portal staging plan plan' ds ds' emission emission' in
     subst (λ (xs : List Descriptor). ChecksPlan s (map fields xs) plan c o) (sym same.1) (subst (λ (x : Plan). ChecksPlan s (map fields ds') x c o) (sym same.0) checks)

@@ -7,6 +7,7 @@ pub mod FencedPlans
 pub mod FencedJudged
 pub mod SameChoice
 pub mod Unfenced
+pub mod PiecesChecked
 pub mod FencedChecked
 pub mod Beginnings
 pub mod Refusals

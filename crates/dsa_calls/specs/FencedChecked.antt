@@ -1,12 +1,12 @@
 -- What checking says of an emission for a list in which a fence is a barrier.
 use Rattle.std.specs.Prelude.{◌≡◌, ◌≢◌, ◌⊎◌, ℕ, ◌<◌, List, length, map, slice_get, Result, Ok, Err}
 use Rattle.dsa_descriptor.specs.declared.descriptor.Descriptor.{Descriptor}
-use Rattle.dsa_descriptor.specs.Fields.{Fields}
 use Rattle.dsa_descriptor.specs.Descriptors.{fields}
 use Rattle.dsa_emission.specs.declared.emission_fault.EmissionFault.{EmissionFault}
 use Rattle.dsa_emission.specs.declared.emission_fault.EmissionFault.TheVariants.{Memory as EmissionMemory}
 use Rattle.dsa_plan.specs.Certificate.{Contents}
-use Rattle.dsa_plan.specs.EmissionFaults.{IsEmission, IsFirstEmissionFault}
+use Rattle.dsa_ranges.specs.Pieces.{Kind, descriptors}
+use Rattle.dsa_plan.specs.EmissionFaults.{IsEmission, IsEmissionAs, IsFirstEmissionFaultAs}
 use Rattle.dsa_plan.specs.Legal.{IsLeast}
 use Rattle.dsa_plan.specs.Plan.{Plan, plan_cost}
 use Rattle.dsa_plan.specs.Settings.{Limits, tariff_of}
@@ -22,8 +22,8 @@ use Rattle.dsa_calls.specs.Fenced.{PiecesConflict, PlansFenced}
 use Rattle.dsa_calls.specs.Lists.{IsListOf}
 use Rattle.dsa_calls.specs.Planned.{Submission}
 
--- the lists agree before index i, and there they don't: the descriptors differ, or only one list has a descriptor there
-pub record IsFirstOther (submitted listed : List Fields) (i : ℕ) : Type 0 where
+-- the lists agree before index i, and there they don't: the pieces differ, or only one list has a piece there
+pub record IsFirstOther {P : Type 0} (submitted listed : List P) (i : ℕ) : Type 0 where
   pub before : (j : ℕ) → j < i → slice_get submitted j ≡ slice_get listed j
   pub other : slice_get submitted i ≢ slice_get listed i
 
@@ -35,21 +35,20 @@ in_call (Err fault) = Err (Call fault)
 -- The outcome of checking these bytes as an emission of these pieces: their first fault as an emission; the first piece
 -- that they submit and that differs; or the outcome of checking the plan whose emission they are. `C` says which pieces
 -- conflict.
-abbrev pub ChecksPieces : (ℕ → ℕ → Type 0) → Limits → List Fields → List ℕ → List ℕ → Contents → Result ℕ FencedFault → Type 0
-ChecksPieces C s pieces portal staging c outcome =
-    ((fault : EmissionFault) × (fault ≢ EmissionMemory) × IsFirstEmissionFault s portal staging fault × (outcome ≡ Err (Call (Emission fault))))
-    ⊎ ((i : ℕ) × (plan : Plan) × (ds : List Descriptor) × IsEmission s portal staging plan ds × IsFirstOther (map fields ds) pieces i × (outcome ≡ Err (OtherPiece i)))
-    ⊎ ((o : Result ℕ PlanFault) × (plan : Plan) × (ds : List Descriptor) × IsEmission s portal staging plan ds × (map fields ds ≡ pieces) × ChecksPlanBy C s (length pieces) plan c o
-    × (outcome ≡ in_call o))
+abbrev pub ChecksPieces : {P : Type 0} → Kind P → (ℕ → ℕ → Type 0) → Limits → List P → List ℕ → List ℕ → Contents → Result ℕ FencedFault → Type 0
+ChecksPieces {P} kind C s pieces portal staging c outcome =
+    ((fault : EmissionFault) × (fault ≢ EmissionMemory) × IsFirstEmissionFaultAs kind s portal staging fault × (outcome ≡ Err (Call (Emission fault))))
+    ⊎ ((i : ℕ) × (plan : Plan) × (ps : List P) × IsEmissionAs kind s portal staging plan ps × IsFirstOther ps pieces i × (outcome ≡ Err (OtherPiece i)))
+    ⊎ ((o : Result ℕ PlanFault) × (plan : Plan) × IsEmissionAs kind s portal staging plan pieces × ChecksPlanBy C s (length pieces) plan c o × (outcome ≡ in_call o))
 
 -- The outcome of checking these bytes as an emission for a list: what planning the list with its fences as barriers
 -- refuses; or the outcome of checking them as an emission of the list's pieces, with its barriers.
 abbrev pub ChecksFenced : List ℕ → List ℕ → List ℕ → Limits → Contents → Result ℕ FencedFault → Type 0
 ChecksFenced bytes portal staging s c outcome =
     ((fault : PlanFault) × PlansFenced bytes s (Err fault) × (outcome ≡ Err (Call fault)))
-    ⊎ ((operations : List Descriptor) × IsListOf (unfenced_list bytes) operations × IsSplit s.greatest_transfer s.staging (map fields operations)
-    × ChecksPieces (PiecesConflict s (map fields operations) (barriers_of bytes) (all_pieces (map fields operations) s.greatest_transfer))
-    s (all_pieces (map fields operations) s.greatest_transfer) portal staging c outcome)
+    ⊎ ((operations pieces : List Descriptor) × IsListOf (unfenced_list bytes) operations × IsSplit s.greatest_transfer s.staging (map fields operations)
+    × (map fields pieces ≡ all_pieces (map fields operations) s.greatest_transfer)
+    × ChecksPieces descriptors (PiecesConflict s (map fields operations) (barriers_of bytes) (map fields pieces)) s pieces portal staging c outcome)
 
 -- the bytes submit a plan of this cost for the pieces of the list; it keeps each barrier, and no legal plan that does costs
 -- less

@@ -4,6 +4,7 @@ ghost use Rattle.std.specs.Prelude.{◌≡◌, ◌⊎◌, ◌≤◌, length, map
 ghost use Rattle.dsa_descriptor.specs.declared.descriptor.Descriptor.{Descriptor};
 ghost use Rattle.dsa_descriptor.specs.Descriptors.{fields};
 ghost use Rattle.dsa_descriptor.specs.Pieces.{most_pieces};
+ghost use Rattle.dsa_ranges.specs.Pieces.{kind_of};
 ghost use Rattle.dsa_ranges.specs.Ranges.{ConflictAt};
 ghost use Rattle.dsa_plan.specs.EmissionFaults.{IsEmission};
 ghost use Rattle.dsa_plan.specs.Barriers.{WithBarriers};
@@ -22,9 +23,8 @@ ghost use Rattle.dsa_calls.specs.FencedChecked.{ChecksFenced, ChecksPieces, IsFi
 use crate::fault::PlanFault;
 use crate::planning::fenced_pieces;
 use dsa_checker::check_with;
-use dsa_descriptor::Descriptor;
-use dsa_image::same_descriptor;
-use dsa_plan::{Certificate, Plan, Settings, read_emission};
+use dsa_plan::{Certificate, Plan, Settings, read_emission, read_submitted};
+use dsa_ranges::Piece;
 use std::alloc::Global;
 
 /// The cost of the plan that the bytes of a portal and a staging area submit, if it is legal and the certificate proves
@@ -64,15 +64,15 @@ pub fn check_bytes(
 ///
 /// # Errors
 /// The first fault of the plan or the certificate, as [`check_with`] reports it.
-pub fn check_plan(
-    pieces: &[Descriptor],
+pub fn check_plan<P: Piece>(
+    pieces: &[P],
     barriers: &[bool],
     settings: &Settings,
     plan: &Plan,
     certificate: &Certificate,
 ) -> Result<u64, PlanFault>
     requires { length pieces.now ≤ most_pieces }
-    ensures { ChecksPlanBy (WithBarriers (ConflictAt (map fields pieces.now)) barriers.now)
+    ensures { ChecksPlanBy (WithBarriers (P.conflict pieces.now) barriers.now)
         settings.now (length pieces.now) plan.now (contents certificate.now) result }
 {
     match check_with(pieces, barriers, settings, plan, certificate) {
@@ -91,13 +91,13 @@ pub enum FencedFault {
 }
 
 /// The index of the first piece that is not the same in both lists.
-fn first_other(submitted: &[Descriptor], listed: &[Descriptor]) -> Option<usize>
-    ensures { MatchOption result (map fields submitted.now ≡ map fields listed.now)
-        (IsFirstOther (map fields submitted.now) (map fields listed.now)) }
+fn first_other<P: Piece>(submitted: &[P], listed: &[P]) -> Option<usize>
+    ensures { MatchOption result (submitted.now ≡ listed.now)
+        (IsFirstOther submitted.now listed.now) }
 {
     let both = submitted.len().min(listed.len());
     for index in 0..both {
-        if !same_descriptor(&submitted[index], &listed[index]) {
+        if !submitted[index].is_same(&listed[index]) {
             return Some(index);
         }
     }
@@ -108,10 +108,16 @@ fn first_other(submitted: &[Descriptor], listed: &[Descriptor]) -> Option<usize>
     }
 }
 
-/// The cost of the plan that the bytes submit for these pieces and their barriers.
-fn check_pieces(
+/// The cost of the plan that the bytes of a portal and a staging area submit for these pieces and their barriers, as
+/// [`check_fenced_list`] checks those of a list: for callers that have read it already.
+///
+/// # Errors
+/// The first fault of the bytes as an emission, as [`read_submitted`] reports it; else [`FencedFault::OtherPiece`] with
+/// the least index; else the first fault of the plan or the certificate, as [`check_plan`] does; [`PlanFault::Memory`]
+/// if an allocation fails.
+pub fn check_pieces<P: Piece>(
     alloc: Global,
-    pieces: &[Descriptor],
+    pieces: &[P],
     barriers: &[bool],
     portal: &[u8],
     staging: &[u8],
@@ -120,11 +126,11 @@ fn check_pieces(
 ) -> Result<u64, FencedFault>
     requires { length pieces.now ≤ most_pieces }
     ensures { (result ≡ Err (Call Memory)) ⊎
-        ChecksPieces (WithBarriers (ConflictAt (map fields pieces.now)) barriers.now)
-        settings.now (map fields pieces.now) portal.now staging.now
-        (contents certificate.now) result }
+        ChecksPieces (kind_of P.spelling P.keeps P.size P.reads P.writes)
+        (WithBarriers (P.conflict pieces.now) barriers.now) settings.now pieces.now
+        portal.now staging.now (contents certificate.now) result }
 {
-    let (plan, submitted) = match read_emission(alloc, portal, staging, settings) {
+    let (plan, submitted) = match read_submitted(alloc, portal, staging, settings) {
         Ok(read) => read,
         Err(fault) => return Err(FencedFault::Call(PlanFault::from(fault))),
     };

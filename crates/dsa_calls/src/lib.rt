@@ -11,7 +11,7 @@ mod planning;
 mod replaying;
 mod running;
 
-pub use checking::{FencedFault, check_bytes, check_fenced_list, check_plan};
+pub use checking::{FencedFault, check_bytes, check_fenced_list, check_pieces, check_plan};
 pub use dsa_descriptor::MOST_PIECES;
 pub use fault::{InnerFault, PlanFault};
 pub use judging::{judge_bytes, judge_fenced_list, judge_pieces};

@@ -1,15 +1,15 @@
 -- What the reader's answers say of all that it might have answered, and that operations are entries of a list.
-use Rattle.std.proofs.Common.{◌≡◌, ℕ, ◌*◌, ◌/◌, ◌%◌, ◌^◌, ◌<◌, List, Some, None, false, eqb, get_or, length, refl, ap, arith}
+use Rattle.std.proofs.Common.{◌≡◌, ◌≢◌, ℕ, ◌*◌, ◌/◌, ◌%◌, ◌^◌, ◌<◌, List, Some, None, false, eqb, get_or, length, refl, ap, arith}
 use Rattle.std.specs.Prelude.{Option}
 use Rattle.std.specs.Int.{bit_at}
 use Rattle.std.proofs.lemmas.Bool.{ne_eqb}
 use Rattle.std.proofs.lemmas.Nat.Bits.{bit_at_and, bit_at_lowest, bit_at-zero}
 use Rattle.dsa_descriptor.specs.declared.fault.FieldFault.{FieldFault}
-use Rattle.dsa_descriptor.specs.declared.fault.FieldFault.TheVariants.{FlagBits}
+use Rattle.dsa_descriptor.specs.declared.fault.FieldFault.TheVariants.{FlagBits, Reserved}
 use Rattle.dsa_descriptor.specs.Descriptors.{fields}
 use Rattle.dsa_descriptor.specs.Faults.{IsFirstFault}
 use Rattle.dsa_descriptor.specs.Lists.{AreEntries}
-use Rattle.dsa_descriptor.specs.Places.{flags_at, u32_at}
+use Rattle.dsa_descriptor.specs.Places.{flags_at, reserved_bits_at, u32_at}
 use Rattle.dsa_descriptor.specs.Spelling.{spelling}
 use Rattle.dsa_descriptor.proofs.Listed.{length-spelling, lowest_of}
 use Rattle.dsa_descriptor.proofs.Listed as descriptors
@@ -18,14 +18,14 @@ use Rattle.dsa_operations.specs.declared.checksum_op.ChecksumOp.{ChecksumOp}
 use Rattle.dsa_operations.specs.declared.operation.Operation.{Operation}
 use Rattle.dsa_operations.specs.declared.operation.Operation.TheVariants as operation
 use Rattle.dsa_operations.specs.Checksums.{checksum_fields}
-use Rattle.dsa_operations.specs.Faults.{IsFirstBroken, IsFirstOperationFault, OperationKeeps}
+use Rattle.dsa_operations.specs.Faults.{IsFirstBroken, IsFirstOperationFault, IsReservedZero, OperationKeeps}
 use Rattle.dsa_operations.specs.Operations.{spelling_of}
 use Rattle.dsa_operations.specs.Places.{checksum_at}
 use Rattle.dsa_operations.specs.Profile.{refused_flags, AreListedFlags}
 use Rattle.dsa_operations.specs.Spelling.{checksum_spelling}
 use Rattle.dsa_operations.proofs.Kept.{rules}
 use Rattle.dsa_operations.proofs.Same.{low_word, one_spelling}
-use Rattle.dsa_operations.proofs.Spelt.{op_there, stands}
+use Rattle.dsa_operations.proofs.Spelt.{checksum_code, op_there, stands}
 
 -- ---- what is a first fault
 
@@ -80,10 +80,25 @@ no_fence_kept bytes (Some op) is kept =
     let rule : AreListedFlags (flags_at bytes) = rw is at (kept FlagBits) in
     omega (arith, lowest_of bytes, no_fence (flags_at bytes) rule)
 
+-- nor a reserved bit
+unreserved_kept : (bytes : List ℕ) (found : Option ChecksumOp) → checksum_at bytes ≡ found → ((fault : FieldFault) → OperationKeeps bytes fault) → reserved_bits_at bytes ≡ 0
+unfolding OperationKeeps
+unreserved_kept bytes None is kept = descriptors.are_entries.unreserved bytes (λ fault. rw is at (kept fault))
+unreserved_kept bytes (Some op) is kept =
+    let rule : IsReservedZero bytes op = rw is at (kept Reserved) in
+    rule.0
+
+-- no operation is a batch
+single_of : (o : Operation) → get_or (spelling_of o) 7 0 ≢ 1
+single_of (operation.Descriptor d) = descriptors.are_entries.single d
+single_of (operation.Checksum c) = checksum_code (checksum_fields c) c.listed
+
 pub are_operations : AreEntries spelling_of OperationKeeps
 are_operations = record {
   whole = length-spelling_of;
   kept = spelling_is_kept;
   one = one_spelling;
+  single = single_of;
   plain = λ bytes kept. no_fence_kept bytes (checksum_at bytes) refl kept;
+  unreserved = λ bytes kept. unreserved_kept bytes (checksum_at bytes) refl kept;
 }

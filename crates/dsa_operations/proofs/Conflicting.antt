@@ -10,12 +10,17 @@ use Rattle.dsa_audit.specs.Members.{AreKnownToConflict, KnownConflict, TouchedCo
 use Rattle.dsa_audit.specs.Steps.{AreLasts}
 use Rattle.dsa_operations.specs.declared.operation.Operation.{Operation}
 use Rattle.dsa_operations.specs.Members.{AreMembersOf, IsMemberOf}
-use Rattle.dsa_operations.specs.Operations.{OperationConflictAt, OperationsConflict}
+use Rattle.dsa_ranges.specs.Ranges.{SpansConflict}
+use Rattle.dsa_operations.specs.Operations.{OperationConflictAt, reads_of, writes_of}
 
 there : {A : Type 0} (xs : List A) (k : ℕ) → k < length xs → (x : A) × (slice_get xs k ≡ Some x)
 there [] k lt = absurd (omega (arith, lt))
 there (x ∷ xs) zero lt = (x, refl)
 there (x ∷ xs) (suc k) lt = there xs k (omega (arith, lt))
+
+-- two operations conflict
+abbrev pub OperationsConflict : Operation → Operation → Type 0
+OperationsConflict o p = SpansConflict (reads_of o) (writes_of o) (reads_of p) (writes_of p)
 
 conflict_of : (o p : Operation) (m n : Member) → IsMemberOf o m → IsMemberOf p n → AreKnownToConflict m n → OperationsConflict o p
 conflict_of o p m n a b c =

@@ -11,3 +11,5 @@ pub mod Conflicting
 pub mod Listed
 pub mod First
 pub mod Submitted
+pub mod Ready
+pub mod AnyLists

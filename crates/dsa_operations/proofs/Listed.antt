@@ -9,7 +9,8 @@ use Rattle.dsa_ranges.specs.Ranges.{ConflictAt, Conflicts}
 use Rattle.dsa_operations.specs.declared.operation.Operation.{Operation}
 use Rattle.dsa_operations.specs.declared.operation.Operation.TheVariants as operation
 use Rattle.dsa_operations.specs.Laws.{DescriptorsConflictAlike}
-use Rattle.dsa_operations.specs.Operations.{OperationConflictAt, OperationsConflict}
+use Rattle.dsa_operations.specs.Operations.{OperationConflictAt}
+use Rattle.dsa_operations.proofs.Conflicting.{OperationsConflict}
 
 -- what is at a place of a list that is made of another
 made_of : {A B : Type 0} (f : A → B) (xs : List A) (k : ℕ) (y : B) → slice_get (map f xs) k ≡ Some y → (x : A) × (slice_get xs k ≡ Some x) × (f x ≡ y)

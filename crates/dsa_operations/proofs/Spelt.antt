@@ -1,5 +1,5 @@
 -- What is at each place of the spelling of a checksum.
-use Rattle.std.proofs.Common.{◌≡◌, ℕ, ◌+◌, ◌/◌, ◌^◌, ◌<◌, ◌≤◌, List, length, Some, Bool, true, false, cond, refl, arith}
+use Rattle.std.proofs.Common.{◌≡◌, ◌≢◌, get_or, ℕ, ◌+◌, ◌/◌, ◌^◌, ◌<◌, ◌≤◌, List, length, Some, Bool, true, false, cond, refl, arith}
 use Rattle.std.proofs.lemmas.Nat.{from_le_bytes-to_le_bytes_2, from_le_bytes-to_le_bytes_4, from_le_bytes-to_le_bytes_8}
 use Rattle.dsa_descriptor.specs.Places.{u16_at, u32_at, u64_at, flags_at}
 use Rattle.dsa_operations.specs.declared.checksum_op.ChecksumOp.{ChecksumOp}
@@ -76,6 +76,15 @@ stands f h = record {
   address_there = from_le_bytes-to_le_bytes_8 (address_field f.op) (address-lt (seed_of f.op) (seed_fits f.op h.op_fits));
   end_zero = refl;
 }
+
+-- byte 7 is the operation code, which is not that of a batch
+pub checksum_code : (f : ChecksumFields) → IsListedChecksum f → get_or (checksum_spelling f) 7 0 ≢ 1
+unfolding checksum_spelling
+checksum_code f h e =
+    let code = code-lt f.op in
+    let high = code-le f.op in
+    let fits : f.flags < 2 ^ 24 = h.flags_fit in
+    absurd (omega (arith, e))
 
 -- ---- the operation that is read from these places
 

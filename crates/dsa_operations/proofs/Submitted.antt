@@ -22,10 +22,10 @@ use Rattle.dsa_operations.proofs.First.{none_first, one_first}
 
 -- ---- one outcome
 
-same_submission : (p q : OperationSubmission) → p.plan ≡ q.plan → p.certificate.version ≡ q.certificate.version → p.certificate.prices ≡ q.certificate.prices
+same_submission : (p q : OperationSubmission) → p.pieces ≡ q.pieces → p.plan ≡ q.plan → p.certificate.version ≡ q.certificate.version → p.certificate.prices ≡ q.certificate.prices
     → p.certificate.pairs ≡ q.certificate.pairs → p.cost ≡ q.cost → p.portal ≡ q.portal → p.staging ≡ q.staging → p ≡ q
-same_submission p q a b c d e f g =
-    λ i. record { plan = a i; certificate = record { version = b i; prices = c i; pairs = d i }; cost = e i; portal = f i; staging = g i }
+same_submission p q n a b c d e f g =
+    λ i. record { pieces = n i; plan = a i; certificate = record { version = b i; prices = c i; pairs = d i }; cost = e i; portal = f i; staging = g i }
 
 module _ (s : Limits) (operations : List Operation) (barriers : List Bool) where
   abbrev pub Conflict : ℕ → ℕ → Type 0
@@ -34,7 +34,7 @@ module _ (s : Limits) (operations : List Operation) (barriers : List Bool) where
   one_submission : (p q : OperationSubmission) → IsOperationSubmission s operations barriers p → IsOperationSubmission s operations barriers q → p ≡ q
   one_submission p q h k =
       let same = one_chosen Conflict s.greatest_batch (tariff_of s) (length operations) p.certificate.prices q.certificate.prices p.certificate.pairs q.certificate.pairs p.plan q.plan h.chosen k.chosen in
-      same_submission p q same.2 (h.version_is ∙ sym k.version_is) same.0 same.1
+      same_submission p q (h.pieces_are ∙ sym k.pieces_are) same.2 (h.version_is ∙ sym k.version_is) same.0 same.1
       (h.cost_is ∙ ap (plan_cost (tariff_of s)) same.2 ∙ sym k.cost_is)
       (h.portal_is ∙ ap (λ (x : Plan). portal_of spelling_of s x operations) same.2 ∙ sym k.portal_is)
       (h.staging_is ∙ ap (λ (x : Plan). staging_of spelling_of x operations) same.2 ∙ sym k.staging_is)
@@ -61,7 +61,7 @@ module _ (s : Limits) (operations : List Operation) (barriers : List Bool) where
   one_refusal f g (inr (inr (i, is, few, short, first))) (inr (inr (j, is', few', short', first'))) =
       is ∙ ap (λ (k : ℕ). Split (StagingMeets k)) (one_first (TouchesArea (area_of s operations)) operations i j first first') ∙ sym is'
 
-  one_plan : (o p : Result OperationSubmission PlanFault) → PlansEntries s operations barriers o → PlansEntries s operations barriers p → o ≡ p
+  pub one_plan : (o p : Result OperationSubmission PlanFault) → PlansEntries s operations barriers o → PlansEntries s operations barriers p → o ≡ p
   one_plan (Ok p) (Ok q) h k = ap Ok (one_submission p q h k)
   one_plan (Ok p) (Err g) h k = absurd (not_refused g h.can k)
   one_plan (Err f) (Ok q) h k = absurd (not_refused f k.can h)

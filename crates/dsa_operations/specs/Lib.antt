@@ -12,3 +12,5 @@ pub mod Laws
 pub mod Samples
 pub mod Members
 pub mod Submissions
+pub mod Checking
+pub mod AnyLists

@@ -7,27 +7,23 @@ use Rattle.dsa_descriptor.specs.declared.span.Span.{Span}
 use Rattle.dsa_descriptor.specs.Fences.{barriers_of, unfenced_list}
 use Rattle.dsa_descriptor.specs.Lists.{AreOfOneOwner, IsFirstFaultBy}
 use Rattle.dsa_descriptor.specs.Pieces.{most_pieces}
-use Rattle.dsa_descriptor.specs.Spans.{InSome, InSpan}
+use Rattle.dsa_descriptor.specs.Spans.{InSpan}
+use Rattle.dsa_ranges.specs.Pieces.{TouchesAt}
 use Rattle.dsa_settings.specs.Staging.{staging_area}
 use Rattle.dsa_plan.specs.Settings.{Limits, tariff_of, version_of}
 use Rattle.dsa_plan.specs.Plan.{Plan, plan_cost}
 use Rattle.dsa_plan.specs.Barriers.{WithBarriers}
-use Rattle.dsa_plan.specs.Certificate.{Contents, contents}
+use Rattle.dsa_plan.specs.Certificate.{Contents, IsGood, contents}
+use Rattle.dsa_plan.specs.Legal.{IsLeast}
 use Rattle.dsa_emission.specs.Emission.{portal_of, staging_of}
 use Rattle.dsa_splitter.specs.declared.fault.SplitFault.TheVariants.{TooManyPieces, StagingMeets}
 use Rattle.dsa_search.specs.Chosen.{IsChosen}
 use Rattle.dsa_calls.specs.declared.fault.PlanFault.{PlanFault}
 use Rattle.dsa_calls.specs.declared.fault.PlanFault.TheVariants.{List as InList, Split, OverTransfer}
 use Rattle.dsa_operations.specs.declared.operation.Operation.{Operation}
-use Rattle.dsa_operations.specs.declared.operation.Operation.TheVariants.{Descriptor, Checksum}
 use Rattle.dsa_operations.specs.declared.submitting.PlannedOperations.{PlannedOperations}
 use Rattle.dsa_operations.specs.Faults.{OperationKeeps}
-use Rattle.dsa_operations.specs.Operations.{OperationConflictAt, reads_of, spelling_of, writes_of}
-
--- the transfer size of an operation (specification 341204, descriptor format)
-abbrev pub size_of : Operation → ℕ
-size_of (Descriptor d) = d.size
-size_of (Checksum c) = c.size
+use Rattle.dsa_operations.specs.Operations.{OperationConflictAt, operation_kind, size_of, spelling_of}
 
 -- an operation is longer than the greatest transfer
 abbrev pub IsOver : ℕ → Operation → Type 0
@@ -35,7 +31,7 @@ IsOver greatest o = greatest < size_of o
 
 -- an operation reads or writes an address of the area
 abbrev pub TouchesArea : Span → Operation → Type 0
-TouchesArea area o = (address : ℕ) × InSpan area address × (InSome (reads_of o) address ⊎ InSome (writes_of o) address)
+TouchesArea area o = (address : ℕ) × InSpan area address × TouchesAt operation_kind o address
 
 -- no operation has the property
 abbrev pub NoneHas : (Operation → Type 0) → List Operation → Type 0
@@ -59,8 +55,15 @@ pub record CanBeSubmitted (s : Limits) (operations : List Operation) : Type 0 wh
   pub short : NoneHas (IsOver s.greatest_transfer) operations
   pub clear : NoneHas (TouchesArea (area_of s operations)) operations
 
--- what planning answers: the plan, its certificate and its cost, and the bytes that submit it
+-- the operations that the bytes without their fences spell, of one owner, and they can be submitted as they are
+pub record AreReady (bytes : List ℕ) (s : Limits) (operations : List Operation) : Type 0 where
+  pub spelt : unfenced_list bytes ≡ flat_map spelling_of operations
+  pub owner : AreOfOneOwner spelling_of operations
+  pub can : CanBeSubmitted s operations
+
+-- what planning answers: how many pieces were planned, the plan, its certificate and its cost, and the bytes that submit it
 pub record OperationSubmission : Type 0 where
+  pub pieces : ℕ
   pub plan : Plan
   pub certificate : Contents
   pub cost : ℕ
@@ -71,6 +74,7 @@ pub record OperationSubmission : Type 0 where
 -- version of the settings, the plan's cost, and its emission
 pub record IsOperationSubmission (s : Limits) (operations : List Operation) (barriers : List Bool) (p : OperationSubmission) : Type 0 where
   pub can : CanBeSubmitted s operations
+  pub pieces_are : p.pieces ≡ length operations
   pub chosen :
       IsChosen (WithBarriers (OperationConflictAt operations) barriers) s.greatest_batch (tariff_of s) (length operations)
       p.certificate.prices p.certificate.pairs p.plan
@@ -97,10 +101,23 @@ PlansOperationList bytes s outcome =
     ⊎ ((operations : List Operation) × (unfenced_list bytes ≡ flat_map spelling_of operations) × AreOfOneOwner spelling_of operations
     × PlansEntries s operations (barriers_of bytes) outcome)
 
+-- the plan is legal for the operations of the list and keeps their barriers, no such plan costs less, and the certificate is
+-- good for its cost
+pub record IsLeastOfOperations (bytes : List ℕ) (s : Limits) (p : OperationSubmission) : Type 0 where
+  pub operations : List Operation
+  pub ready : AreReady bytes s operations
+  pub pieces_are : p.pieces ≡ length operations
+  pub least :
+      IsLeast (WithBarriers (OperationConflictAt operations) (barriers_of bytes)) s.greatest_batch (tariff_of s) (length operations) p.plan
+  pub good :
+      IsGood (WithBarriers (OperationConflictAt operations) (barriers_of bytes)) s.greatest_batch (tariff_of s) (length operations)
+      p.certificate.prices p.certificate.pairs p.cost
+
 -- what was planned, as contracts see it
 abbrev pub operation_submission_of : PlannedOperations → OperationSubmission
 operation_submission_of p =
     record {
+      pieces = p.pieces;
       plan = p.plan;
       certificate = contents p.certificate;
       cost = p.cost;

@@ -1,6 +1,8 @@
 //! The operations that a list may have: those of a descriptor, and the two that make checksums.
 #![tactic(auto)]
 
+mod any_list;
+mod checking;
 mod checksum;
 mod checksum_op;
 mod flags;
@@ -11,6 +13,8 @@ mod planning;
 mod reading;
 mod submitting;
 
+pub use any_list::{check_any_list, plan_any_list};
+pub use checking::check_operation_list;
 pub use checksum::Checksum;
 pub use checksum_op::{ChecksumOp, Seed};
 pub use laws::{

@@ -6,7 +6,7 @@ ghost use Rattle.dsa_descriptor.specs.declared.fault.FieldFault.{FieldFault};
 use crate::checksum::Checksum;
 use crate::reading::{checksum_at, first_fault};
 use dsa_descriptor::{Descriptor, Entry, EntryList, FieldFault};
-use dsa_ranges::{Touched, touched};
+use dsa_ranges::{Piece, Touched, touched};
 
 /// An operation that a list may have, with its completion record and its owner.
 #[derive(Clone, Copy)]
@@ -24,8 +24,7 @@ pub type OperationList = EntryList<Operation>;
 impl Operation {
     ghost use Rattle.dsa_operations.specs.declared.operation.Operation.{Operation};
     ghost use Rattle.dsa_operations.specs.Faults.{IsFirstOperationFault};
-    ghost use Rattle.dsa_operations.specs.Operations.{reads_of, spelling_of, writes_of};
-    ghost use Rattle.dsa_operations.specs.Submissions.{size_of};
+    ghost use Rattle.dsa_operations.specs.Operations.{spelling_of};
 
     /// The operation that the 64 bytes spell.
     ///
@@ -61,27 +60,6 @@ impl Operation {
             Operation::Checksum(checksum) => checksum.write(),
         }
     }
-
-    /// The transfer size of the operation.
-    pub fn size(&self) -> u32
-        ensures { result ≡ size_of self.now }
-    {
-        match self {
-            Operation::Descriptor(descriptor) => descriptor.size,
-            Operation::Checksum(checksum) => checksum.size,
-        }
-    }
-
-    /// What the operation reads and writes, its completion record included.
-    pub fn touched(&self) -> Touched
-        ensures reads { result.reads.items ≡ reads_of self.now }
-        ensures writes { result.writes.items ≡ writes_of self.now }
-    {
-        match self {
-            Operation::Descriptor(descriptor) => touched(descriptor),
-            Operation::Checksum(checksum) => checksum.touched(),
-        }
-    }
 }
 
 impl Entry for Operation {
@@ -102,5 +80,37 @@ impl Entry for Operation {
     #[inline(always)]
     fn write_entry(&self) -> [u8; 64] {
         self.write()
+    }
+
+    fn is_same(&self, other: &Self) -> bool {
+        self.write() == other.write()
+    }
+}
+
+impl Piece for Operation {
+    ghost use Rattle.dsa_operations.specs.Operations.{OperationConflictAt, reads_of, size_of, writes_of};
+
+    ghost size = { size_of };
+
+    ghost reads = { reads_of };
+
+    ghost writes = { writes_of };
+
+    ghost conflict = { OperationConflictAt };
+
+    fn are_pieces() {}
+
+    fn transfer_size(&self) -> u32 {
+        match self {
+            Operation::Descriptor(descriptor) => descriptor.size,
+            Operation::Checksum(checksum) => checksum.size,
+        }
+    }
+
+    fn touched_spans(&self) -> Touched {
+        match self {
+            Operation::Descriptor(descriptor) => touched(descriptor),
+            Operation::Checksum(checksum) => checksum.touched(),
+        }
     }
 }

@@ -15,6 +15,7 @@ ghost use Rattle.dsa_operations.specs.Members.{AreMembersOf};
 use crate::operation::Operation;
 use dsa_audit::{Member, all_lasts};
 use dsa_plan::Settings;
+use dsa_ranges::Piece;
 use dsa_search::{Found, search_lasts};
 use std::alloc::{AllocError, Global};
 
@@ -24,7 +25,7 @@ fn members_of(alloc: Global, operations: &[Operation]) -> Result<Vec<Member>, Al
 {
     let mut members = Vec::with_capacity(alloc, operations.len())?;
     for operation in operations {
-        members.push(Member::Known(operation.touched()))?;
+        members.push(Member::Known(operation.touched_spans()))?;
     }
     Ok(members)
 }

@@ -17,7 +17,7 @@ use dsa_calls::PlanFault;
 use dsa_descriptor::{MOST_PIECES, Span, read_entries};
 use dsa_emission::{Emission, emit_entries};
 use dsa_plan::Certificate;
-use dsa_ranges::meets_some;
+use dsa_ranges::{Piece, meets_some};
 use dsa_search::Found;
 use dsa_settings::{Plan, STAGED_LEN, Settings};
 use dsa_splitter::SplitFault;
@@ -26,7 +26,9 @@ use std::alloc::{AllocError, Global};
 /// Planned operations.
 #[derive(Drop)]
 pub struct PlannedOperations {
-    /// The plan of the operations. No legal plan that keeps the barriers costs less.
+    /// The number of pieces that were planned.
+    pub pieces: usize,
+    /// The plan of these pieces. No legal plan that keeps the barriers costs less.
     pub plan: Plan,
     /// The certificate that none does.
     pub certificate: Certificate,
@@ -42,7 +44,7 @@ fn first_over(operations: &[Operation], greatest: u64) -> Option<usize>
         (λ i. IsFirst (IsOver greatest) operations.now i) }
 {
     for (index, operation) in operations.iter().enumerate() {
-        if u64::from(operation.size()) > greatest {
+        if u64::from(operation.transfer_size()) > greatest {
             return Some(index);
         }
     }
@@ -53,7 +55,7 @@ fn first_over(operations: &[Operation], greatest: u64) -> Option<usize>
 fn touches_area(operation: &Operation, area: Span) -> bool
     ensures { IsTrue result ↔ TouchesArea area operation.now }
 {
-    let touched = operation.touched();
+    let touched = operation.touched_spans();
     if meets_some(area, &touched.reads) {
         return true;
     }
@@ -74,7 +76,7 @@ fn first_meeting(operations: &[Operation], area: Span) -> Option<usize>
 }
 
 /// Why the operations cannot be submitted as they are, if they cannot.
-fn refusal(operations: &[Operation], settings: &Settings) -> Option<PlanFault>
+pub(crate) fn refusal(operations: &[Operation], settings: &Settings) -> Option<PlanFault>
     ensures { MatchOption result (CanBeSubmitted settings.now operations.now)
         (λ fault. (barriers : List Bool) →
         PlansEntries settings.now operations.now barriers (Err fault)) }
@@ -121,6 +123,7 @@ fn plan_as_they_are(
         pairs,
     };
     Ok(PlannedOperations {
+        pieces: operations.len(),
         plan,
         certificate,
         cost,

@@ -1,12 +1,15 @@
 //! Lists of operations, checksums among them.
 
-use dsa_calls::PlanFault;
+use dsa_calls::{FencedFault, PlanFault};
+use dsa_checker::CheckFault;
 use dsa_descriptor::{
     FieldFault, ListFault, descriptors_are_fenced_alike, entries_read_back, read_entries,
     write_entries,
 };
-use dsa_operations::{Operation, OperationList, plan_operation_list, search_operations};
-use dsa_plan::Settings;
+use dsa_operations::{
+    Operation, OperationList, check_any_list, plan_any_list, plan_operation_list, search_operations,
+};
+use dsa_plan::{LegalFault, Settings};
 use dsa_splitter::SplitFault;
 use std::test::Fail;
 
@@ -118,5 +121,65 @@ fn what_cannot_be_submitted_is_refused(rt: HostRuntime) -> Result<(), Fail> {
     assert!(rt; meeting == Some(PlanFault::Split(SplitFault::StagingMeets(2))));
     let beside = Settings::new(32, 4096, 10, 14, 3, 0x4040)?;
     assert!(rt; plan_operation_list(rt.alloc(), &list, &beside).is_ok());
+    Ok(())
+}
+
+/// The bytes that submit the list are accepted for it with their certificate, at their cost.
+#[test]
+fn planned_checksums_are_accepted(rt: HostRuntime) -> Result<(), Fail> {
+    let alloc = rt.alloc();
+    let list = two_checksums_and_a_copy();
+    let settings = Settings::new(32, 4096, 10, 14, 3, 0x10000)?;
+    let planned = plan_any_list(alloc, &list, &settings)?;
+    assert!(rt; planned.pieces == 3);
+    let (portal, staging) = (&planned.emission.portal, &planned.emission.staging);
+    let cost = check_any_list(
+        alloc,
+        &list,
+        portal,
+        staging,
+        &settings,
+        &planned.certificate,
+    );
+    assert!(rt; cost.ok() == Some(20));
+    Ok(())
+}
+
+/// Without the fence before the copy they are not: the barrier there is not kept. Nor are those of a list whose second
+/// checksum reads its seed elsewhere.
+#[test]
+fn other_bytes_are_refused_for_checksums(rt: HostRuntime) -> Result<(), Fail> {
+    let alloc = rt.alloc();
+    let list = two_checksums_and_a_copy();
+    let settings = Settings::new(32, 4096, 10, 14, 3, 0x10000)?;
+    let planned = plan_any_list(alloc, &list, &settings)?;
+    let (portal, certificate) = (&planned.emission.portal, &planned.certificate);
+    let mut staging = [0; 224];
+    staging.copy_from_slice(&planned.emission.staging);
+    let mut other = list;
+    other[112] = 0x14;
+    let elsewhere = check_any_list(alloc, &other, portal, &staging, &settings, certificate);
+    assert!(rt; matches!(elsewhere, Err(FencedFault::OtherPiece(1))));
+    staging[132] = 0x0c;
+    let unfenced = check_any_list(alloc, &list, portal, &staging, &settings, certificate);
+    let Err(FencedFault::Call(fault)) = unfenced else {
+        panic!(rt; "the barrier need not be kept");
+    };
+    assert!(rt; fault == PlanFault::Check(CheckFault::Plan(LegalFault::Unfenced(1, 2))));
+    Ok(())
+}
+
+/// A list of descriptors is planned as such: its long operation is split.
+#[test]
+fn descriptors_are_split(rt: HostRuntime) -> Result<(), Fail> {
+    let alloc = rt.alloc();
+    let mut list = FENCED_COPY;
+    list[6..8].copy_from_slice(&[0x00, 0x03]);
+    let settings = Settings::new(32, 32, 10, 14, 3, 0x10000)?;
+    let planned = plan_any_list(alloc, &list, &settings)?;
+    assert!(rt; planned.pieces == 2);
+    list[7] = 0x11;
+    let fault = plan_any_list(alloc, &list, &settings).err();
+    assert!(rt; fault == Some(PlanFault::OverTransfer(0)));
     Ok(())
 }

@@ -5,7 +5,8 @@ use Rattle.dsa_calls.specs.declared.fault.PlanFault.TheVariants.{Memory}
 use Rattle.dsa_calls.specs.declared.checking.FencedFault.TheVariants.{Call}
 use Rattle.dsa_calls.specs.Fenced.{AreFencedPieces}
 use Rattle.dsa_calls.specs.FencedChecked.{ChecksFenced}
-use Rattle.dsa_calls.proofs.FencedChecked.{refused_call, least_if_ok, only_check, pieces_checked}
+use Rattle.dsa_calls.proofs.FencedChecked.{least_if_ok, one_fenced_check, pieces_checked}
+use Rattle.dsa_calls.proofs.PiecesChecked.{only_check, refused_call}
 use Rattle.dsa_calls.proofs.checking.check_fenced_list.Goals as goal
 use Rattle.dsa_calls.proofs.checking.check_fenced_list.Goals.{After-drop-marked-2}
 
@@ -16,7 +17,8 @@ returns-in-Err-clause-only c =
       | inl memory ↦ inl (ap refused_call memory)
       | inr refused ↦ inr (inl (c.in-Err.fault, refused, refl))
     ] in
-    only_check c.args.list.now c.args.portal.now c.args.staging.now c.args.settings.now (contents c.args.certificate.now) (refused_call c.in-Err.fault) told
+    let Says = ChecksFenced c.args.list.now c.args.portal.now c.args.staging.now c.args.settings.now (contents c.args.certificate.now) in
+    only_check Says (one_fenced_check c.args.list.now c.args.portal.now c.args.staging.now c.args.settings.now (contents c.args.certificate.now)) (refused_call c.in-Err.fault) told
 
 answer : (c : After-drop-marked-2) → (c.check_pieces.result ≡ Err (Call Memory)) ⊎ ChecksFenced c.args.list.now c.args.portal.now c.args.staging.now c.args.settings.now (contents c.args.certificate.now) c.check_pieces.result
 answer c =
@@ -30,7 +32,9 @@ pub returns-clause-answer : goal.returns-clause-answer
 returns-clause-answer c = answer c
 
 pub returns-clause-only : goal.returns-clause-only
-returns-clause-only c = only_check c.args.list.now c.args.portal.now c.args.staging.now c.args.settings.now (contents c.args.certificate.now) c.check_pieces.result (answer c)
+returns-clause-only c =
+    let Says = ChecksFenced c.args.list.now c.args.portal.now c.args.staging.now c.args.settings.now (contents c.args.certificate.now) in
+    only_check Says (one_fenced_check c.args.list.now c.args.portal.now c.args.staging.now c.args.settings.now (contents c.args.certificate.now)) c.check_pieces.result (answer c)
 
 pub returns-clause-least : goal.returns-clause-least
 returns-clause-least c = least_if_ok c.args.list.now c.args.portal.now c.args.staging.now c.args.settings.now (contents c.args.certificate.now) c.check_pieces.result (answer c)

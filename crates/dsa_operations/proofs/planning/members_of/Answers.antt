@@ -15,14 +15,14 @@ loop-operation-preserved c =
     let before = c.loop-operation.invariant in
     let index : ℕ = c.loop-operation.operation-index in
     let item : Operation = c.operation-item.result in
-    let new : Member = Known c.touched.result in
+    let new : Member = Known c.touched_spans.result in
     let there : slice_get operations index ≡ Some item =
     slice_get_read operations (length operations) index item refl (omega (arith, c.loop-operation-test.true, c.loop-operation.auto.operation-index-end)) c.operation-item.is in
     let here : (o : Operation) → slice_get operations (length c.loop-operation.members.items) ≡ Some o → IsMemberOf o new =
     λ o at.
     let at' : slice_get operations index ≡ Some o = rw before.count at at in
     let is : item ≡ o = same_Some item o (sym there ∙ at') in
-    record { touched = c.touched.result; known = refl; reads = c.touched.ensures.reads ∙ ap reads_of is; writes = c.touched.ensures.writes ∙ ap writes_of is } in
+    record { touched = c.touched_spans.result; known = refl; reads = c.touched_spans.ensures.reads ∙ ap reads_of is; writes = c.touched_spans.ensures.writes ∙ ap writes_of is } in
     record {
       count = omega (arith, ap length c.in_ok-push.ensures.items, length-append c.loop-operation.members.items (new ∷ []), before.count);
       each = λ k m e.

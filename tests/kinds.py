@@ -19,7 +19,7 @@ FENCED = f"""group 0: batch of 2, 1 fence, 2 epochs, cost 17
 # without a barrier, and with these comments
 APART = "group 0: batch of 2, 0 fences, 1 epoch, cost 14\n  0: {}  1: {}cost 14; 2 lone submissions cost 20, saved 6\n"
 NOTHING = "cost 0; 0 lone submissions cost 0, saved 0\n"
-# a batch of a move, a CRC, which no list has, and a compare with check that reads what the move writes
+# a batch of a move, a CRC, which no list of a text has, and a compare with check that reads what the move writes
 HEAD = bytes(4) + (0x0100000C).to_bytes(4, "little") + (0x7000).to_bytes(8, "little") + (0x10000).to_bytes(8, "little")
 HEAD += bytes(8) + (3).to_bytes(4, "little") + bytes(28)
 CRC = Op(0x10, 0x2000, 0x8020, 0x900000, 0).bytes()
@@ -35,8 +35,8 @@ LEFT = "note: left out: 1 of 3 operations, each for the reason in its comment: "
 LEFT += "no plan has them, and no cost counts them\n"
 EMPTY = "note: the list is empty\n"
 NO_OPERATIONS = "note: this list is empty: the recording has no operations\n"
-FLAGS = "flags 0x0004 and 0x0008 have to be set; 0x0010 (interrupt), 0x0040 and bits 16 to 23 may not; "
-FLAGS += "0x0001 (fence) only in lists with barriers; 0x0080 (check) only in compares"
+FLAGS = "flags 0x0004 and 0x0008 have to be set; 0x0010 (interrupt), 0x0040 and bits 16 to 23 (of a checksum 19 "
+FLAGS += "to 23) may not; 0x0001 (fence) only in lists with barriers; 0x0080 (check) only in compares"
 HINT = "note: it has a fence (flag 0x0001), which --keep-fences reads as a barrier\n"
 EXPECTED = "expected move, fill, compare, delta or dualcast, found"
 DUMP = "(a dump of bytes, which explain and disassemble read if only blanks are before it)"

@@ -81,6 +81,30 @@ static inline void dsa_put_dualcast(uint8_t *at, uint64_t source, uint64_t first
     dsa_put_descriptor(at, 0x09, source, first, size, second, record);
 }
 
+/* The checksum (CRC-32C) of a range, the number in bytes 16 to 19 of the record, as one checksum of what `seed` is that
+ * of and of the range; 0 for that of the range alone. dsa_plan_list, dsa_plan_list_certified and dsa_check_list take
+ * checksums. */
+static inline void dsa_put_crc(uint8_t *at, uint64_t source, uint64_t size, uint32_t seed, uint64_t record)
+{
+    dsa_put_descriptor(at, 0x10, source, 0, size, seed, record);
+}
+
+/* The same, and the range is moved to target, which may not meet it. */
+static inline void dsa_put_copy_crc(uint8_t *at, uint64_t source, uint64_t target, uint64_t size, uint32_t seed,
+                                    uint64_t record)
+{
+    dsa_put_descriptor(at, 0x11, source, target, size, seed, record);
+}
+
+/* Of a checksum: its seed is read from these four bytes when it is made. At `record + 16` of an earlier checksum, the
+ * two make one checksum of both ranges. */
+static inline void dsa_seed_from(uint8_t *at, uint64_t seed)
+{
+    at[6] |= 0x01;
+    dsa_put_number(at + 40, 0, 8);
+    dsa_put_number(at + 48, seed, 8);
+}
+
 /* Sets further flags, of the lower 16. */
 static inline void dsa_set_flags(uint8_t *at, uint16_t flags)
 {

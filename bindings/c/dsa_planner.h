@@ -10,6 +10,13 @@
  *            that is split the first piece is after the barrier, and the flag on the first operation says nothing. A
  *            plan keeps each barrier, by a fence or a new group, and no legal plan that does costs less.
  *
+ * Checksums: lists of dsa_plan_list, dsa_plan_list_certified and dsa_check_list may have CRC generation (0x10) and copy
+ *            with CRC (0x11). Of a list with one no operation is split: one longer than greatest_transfer is refused
+ *            (37). A seed in memory is read by its operation: a checksum that reads it in the record of another comes
+ *            after that one. What such a list leaves in memory is not proved. Other calls that take a list refuse the
+ *            two codes (2), and those that take bytes to submit refuse them as DSA_ENTRY with 2 inside;
+ *            dsa_count_pieces counts as of other operations.
+ *
  * Proved:    of each call but dsa_planner_version, for all inputs of a caller that does what is asked below: which
  *            number it returns, and what it has written then, as its comment here says. The contracts are at the
  *            functions of the same names in crates/dsa_c/src of the repository. Tested, not proved: that a call succeeds
@@ -44,8 +51,8 @@
  *     written (not const). With length 0 it is not read, and any aligned non-null address will do.
  *   - no output of a call overlaps another output or an input of that call. Outputs need not be initialised.
  *   - the calling thread has 256 KiB of stack free for dsa_check, dsa_check_list and dsa_judge, and 64 KiB for the
- *     other calls (measured: 166,088 bytes for dsa_check). Main threads and those of glibc have 8 MiB if no limit is
- *     set lower. A thread of musl has 128 KiB, too little for these three, unless pthread_attr_setstacksize gives it
+ *     other calls (measured: 166,808 bytes for dsa_check_list). Main threads and those of glibc have 8 MiB if no limit
+ *     is set lower. A thread of musl has 128 KiB, too little for these three, unless pthread_attr_setstacksize gives it
  *     more.
  *   - its rattle_alloc, rattle_realloc and rattle_dealloc, if it has its own, return, and may be called by several
  *     threads at once if calls are made so.
@@ -153,10 +160,10 @@ enum dsa_number {
     /* the list's length is no multiple of 64 */
     DSA_LENGTH = 1,
     /* descriptor `first`: the operation code is not one of a move, fill, compare, compare pattern, delta or
-       dualcast */
+       dualcast, or of a checksum if there may be one */
     DSA_OPCODE = 2,
-    /* descriptor `first`: flags 0x0004 and 0x0008 have to be set; 0x0010 (interrupt), 0x0040 and bits 16 to 23 may
-       not; 0x0001 (fence) only in lists with barriers; 0x0080 (check) only in compares */
+    /* descriptor `first`: flags 0x0004 and 0x0008 have to be set; 0x0010 (interrupt), 0x0040 and bits 16 to 23 (of
+       a checksum 19 to 23) may not; 0x0001 (fence) only in lists with barriers; 0x0080 (check) only in compares */
     DSA_FLAG_BITS = 3,
     /* descriptor `first`: a reserved bit or byte is not zero */
     DSA_RESERVED = 4,
@@ -168,7 +175,8 @@ enum dsa_number {
     DSA_RECORD_ALIGN = 7,
     /* descriptor `first`: the low twelve bits of a dualcast's destinations differ */
     DSA_DUALCAST_BITS = 8,
-    /* descriptor `first`: two of a dualcast's ranges meet, or a delta's record and its destination */
+    /* descriptor `first`: two of a dualcast's ranges meet, or a delta's record and its destination, or what a copy
+       with CRC reads and its destination */
     DSA_OVERLAP = 9,
     /* descriptor `first`: a delta's size is no multiple of 8 or above 0x80000, its destination no multiple of 8, or
        its record's size no multiple of 10 */
@@ -462,6 +470,7 @@ uint64_t dsa_warning_text(const struct dsa_warning *warning, char *text, size_t 
 /*
  * Checks bytes to submit, whoever made them, with a certificate of this version, whoever wrote it. The lengths are those
  * of the plan, not of buffers: portal_len and staging_len of struct dsa_planned, n + 1 prices and n pairs for n pieces.
+ * Bytes that submit a checksum are refused; dsa_check_list takes them.
  *
  * Returns 0: cost is what the plan costs that the bytes submit; each conflict within a batch has its fence, and no legal
  * plan of these pieces costs less. Returns another number: refusal has it, and nothing else was written.

@@ -33,7 +33,7 @@ QUEUE = ROOT / "bindings/queue"
 # The layer, and the device in software that it shares with dsa_trace.
 QUEUE_OF = [*sorted(QUEUE.glob("*.c")), *(ROOT / f"trace/{name}.c" for name in ("crc", "device", "dif", "valid"))]
 QUEUE_SONAME = "libdsa_queue.so.0"  # its calls may change in any version
-MODULES = ("dsa_planner", "dsa_queue", "dsa_reasons")  # of Python
+MODULES = ("dsa_descriptors", "dsa_planner", "dsa_queue", "dsa_reasons")  # of Python
 PROVED = {
     "libdsa_c.a": ROOT / "crates/dsa_c/out/libdsa_c.a",
     "dsa": ROOT / "crates/dsa/out/dsa",

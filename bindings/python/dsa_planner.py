@@ -20,11 +20,15 @@ from dataclasses import dataclass
 from pathlib import Path
 from typing import Callable, Dict, FrozenSet, Iterable, List, NamedTuple, Optional, Sequence, Tuple, Union
 
+from dsa_descriptors import (
+    _whole, apply_delta, compare, compare_pattern, copy_crc, crc, dualcast, fill, move,
+)
+
 __all__ = [
     "BARRIER", "BEGINS", "BLOCK_ON_FAULT", "CAUSES", "FENCED", "MOST_PIECES", "Certificate", "Group", "Planned",
-    "Prepared", "Refusal", "Resumed", "Retired", "Settings", "Submitted", "Summary", "Tracker", "apply_delta", "check",
-    "check_list", "compare", "compare_pattern", "count_pieces", "dualcast", "fill", "groups", "judge",
-    "library_version", "move", "plan_list", "plan_list_certified", "prepare", "resume",
+    "Prepared", "Refusal", "Resumed", "Retired", "Settings", "Submitted", "Summary", "Tracker", "apply_delta",
+    "check", "check_list", "compare", "compare_pattern", "copy_crc", "count_pieces", "crc", "dualcast", "fill",
+    "groups", "judge", "library_version", "move", "plan_list", "plan_list_certified", "prepare", "resume",
 ]
 
 MOST_PIECES = 65_536
@@ -187,15 +191,6 @@ def library_version() -> Tuple[int, int, int]:
 
 
 # ---- what goes in and out
-
-
-def _whole(name: str, value: int, limit: int = 2**64) -> int:
-    """The value, if it is a whole number from 0 to below the limit."""
-    if isinstance(value, bool) or not isinstance(value, int):
-        raise TypeError(f"{name} is {value!r}, and has to be a whole number")
-    if not 0 <= value < limit:
-        raise ValueError(f"{name} is {value}, and has to be from 0 to {limit - 1}")
-    return value
 
 
 @dataclass(frozen=True)
@@ -392,68 +387,7 @@ def _sentence(number: int, first: int, second: int) -> str:
     return text.raw[:length].decode() or "a cause of a later version of the library"
 
 
-# ---- descriptors, and plans
-
-
-def _descriptor(code: int, size: int, record: int, first: int, second: int, own: bytes, flags: int,
-                owner: int) -> bytes:
-    """The 64 bytes of a descriptor with a completion record, which is requested."""
-    word = code << 24 | 0x0C | _whole("flags", flags, 1 << 24)
-    fields = [("record", record), ("an address or a pattern", first), ("an address or a pattern", second)]
-    numbers = [_whole(name, value).to_bytes(8, "little") for name, value in fields]
-    head = owner.to_bytes(4, "little") + word.to_bytes(4, "little") + b"".join(numbers)
-    return (head + _whole("size", size, 1 << 32).to_bytes(4, "little") + bytes(4) + own).ljust(64, b"\0")
-
-
-def _owner(pasid: int, privileged: bool) -> int:
-    return _whole("pasid", pasid, 1 << 20) | (1 << 31 if privileged else 0)
-
-
-def _expecting(expected: Optional[int]) -> Tuple[int, bytes]:
-    """The flag check result and the expected result, if one is expected."""
-    return (0, b"") if expected is None else (0x0080, bytes([_whole("expected", expected, 2)]))
-
-
-def move(source: int, target: int, size: int, record: int, *, flags: int = 0, pasid: int = 0,
-         privileged: bool = False) -> bytes:
-    """The descriptor of a move of `size` bytes, with its completion record at `record`. A list is several of them in a
-    row. `flags` are further ones, as `BLOCK_ON_FAULT`; `pasid` stays 0 if the queue supplies it."""
-    return _descriptor(0x03, size, record, source, target, b"", flags, _owner(pasid, privileged))
-
-
-def fill(target: int, size: int, pattern: int, record: int, *, flags: int = 0, pasid: int = 0,
-         privileged: bool = False) -> bytes:
-    """That of a fill with the 8 bytes of `pattern`, the lowest first."""
-    return _descriptor(0x04, size, record, pattern, target, b"", flags, _owner(pasid, privileged))
-
-
-def compare(first: int, second: int, size: int, record: int, *, expected: Optional[int] = None, flags: int = 0,
-            pasid: int = 0, privileged: bool = False) -> bytes:
-    """That of a compare of two ranges. With `expected`, 0 for equal and 1 for different, it fails (status 2) if the
-    result is the other."""
-    check_result, own = _expecting(expected)
-    return _descriptor(0x05, size, record, first, second, own, flags | check_result, _owner(pasid, privileged))
-
-
-def compare_pattern(source: int, size: int, pattern: int, record: int, *, expected: Optional[int] = None,
-                    flags: int = 0, pasid: int = 0, privileged: bool = False) -> bytes:
-    """That of a compare of a range with the 8 bytes of `pattern`, over and over; `expected` as of `compare`."""
-    check_result, own = _expecting(expected)
-    return _descriptor(0x06, size, record, source, pattern, own, flags | check_result, _owner(pasid, privileged))
-
-
-def apply_delta(delta: int, delta_size: int, target: int, size: int, record: int, *, flags: int = 0, pasid: int = 0,
-                privileged: bool = False) -> bytes:
-    """That of an apply delta: the record of `delta_size` bytes at `delta` is applied to `size` bytes at `target`."""
-    own = _whole("delta_size", delta_size, 1 << 32).to_bytes(4, "little")
-    return _descriptor(0x08, size, record, delta, target, own, flags, _owner(pasid, privileged))
-
-
-def dualcast(source: int, first: int, second: int, size: int, record: int, *, flags: int = 0, pasid: int = 0,
-             privileged: bool = False) -> bytes:
-    """That of a dualcast: a move to `first` and to `second`, whose low 12 bits are equal."""
-    own = _whole("second", second).to_bytes(8, "little")
-    return _descriptor(0x09, size, record, source, first, own, flags, _owner(pasid, privileged))
+# ---- plans
 
 
 class Group(NamedTuple):
@@ -513,7 +447,10 @@ def plan_list(settings: Settings, operations: Bytes) -> Summary:
 
     An operation with the flag `BARRIER` begins after a barrier. If each entry is awaited, and none is submitted after
     one that failed, the device starts nothing of it, nor of what comes after it, before all operations before it have
-    ended with status 1. No plan that keeps each barrier costs less."""
+    ended with status 1. No plan that keeps each barrier costs less.
+
+    Of a list with a checksum (`crc`, `copy_crc`) no operation is split. What such a list leaves in memory is not
+    proved, and `check` does not take it."""
     raw, table, entries = settings._raw()
     listed, size = _given("operations", operations)
     pieces = min(int(_library.dsa_count_pieces(raw, table, entries, listed, size)), MOST_PIECES)

@@ -1,9 +1,12 @@
 /* Lists in which a fence is a barrier, beside every plan of them: fenced [COUNT [SEED]].
  *
- * Random lists of up to seven moves over a few pages, with random barriers. Of all plans those that dsa_judge takes of
- * the list without the flag and that begin a group or set a fence at each barrier are legal; the least cost of these is
- * the answer, and what is submitted keeps each barrier. A flag that is no barrier changes no byte, and what is refused
- * of the list without flags is refused. Of each plan dsa_judge says what it costs, or which barrier it does not keep.
+ * Random lists of up to seven moves over a few pages, with random barriers; of each third list some operations make
+ * checksums, with seeds that they are given or read, also in records of earlier ones. Of all plans those are legal that
+ * separate each conflict, as told here by what operations read and write, and that begin a group or set a fence at each
+ * barrier; the least cost of these is the answer, and what is submitted keeps each barrier. A flag that is no barrier
+ * changes no byte, and what is refused of the list without flags is refused. Of each plan of a list without checksums
+ * dsa_judge says what it costs, or which barrier it does not keep; it, preparing, explaining, warning and checking
+ * bytes alone refuse checksums by their code.
  * With the certificate of these costs dsa_check_list accepts the bytes of those plans alone that are legal, keep the
  * barriers and cost the least, and no bytes of other pieces; and with its own certificate what dsa_plan_list_certified
  * writes, which is what dsa_plan_list does. */
@@ -30,18 +33,37 @@ struct list {
     uint64_t table[MOST];
     size_t count, entries;
     uint8_t bytes[64 * MOST], plain[64 * MOST];
-    int is_barrier[MOST];
+    int is_barrier[MOST], has_checksums;
 };
 
 static void fail(const struct list *l, const char *what, uint64_t first, uint64_t second)
 {
-    printf("%s: %" PRIu64 ", not %" PRIu64 "; %zu moves\n", what, first, second, l->count);
+    printf("%s: %" PRIu64 ", not %" PRIu64 "; %zu operations\n", what, first, second, l->count);
     for (size_t k = 0; k < l->count; k++) {
         for (int i = 0; i < 36; i++)
             printf("%02x", l->bytes[64 * k + i]);
         printf("\n");
     }
     exit(EXIT_FAILURE);
+}
+
+/* One of twelve pages. */
+static uint64_t page(uint32_t number) { return 0x10000 + 0x1000 * number; }
+
+/* A checksum, with a copy or without: its seed is given, or read in a page that is not copied to, or in a record. */
+static void draw_checksum(uint8_t *d, size_t k)
+{
+    const uint32_t source = drawn(12), target = (source + 1 + drawn(10)) % 12;
+    const uint64_t record = 0x800000 + 32 * k;
+    if (drawn(2))
+        dsa_put_crc(d, page(source), 1 + drawn(4096), drawn(1000), record);
+    else
+        dsa_put_copy_crc(d, page(source), page(target), 1 + drawn(4096), drawn(1000), record);
+    const uint32_t place = drawn(3);
+    if (place == 1)
+        dsa_seed_from(d, page((target + 1 + drawn(11)) % 12) + drawn(4093));
+    if (place == 2 && k)
+        dsa_seed_from(d, 0x800000 + 32 * drawn((uint32_t)k) + 16);
 }
 
 /* Each barrier is the flag 0x0001; one on the first move says nothing. */
@@ -57,10 +79,13 @@ static void draw(struct list *l)
             l->table[k] = drawn(25);
     }
     l->count = 1 + drawn(MOST);
+    l->has_checksums = drawn(3) == 0;
     for (size_t k = 0; k < l->count; k++) {
         uint8_t *d = l->bytes + 64 * k;
-        dsa_put_move(d, 0x10000 + 0x1000 * drawn(12), 0x10000 + 0x1000 * drawn(12), 1 + drawn(4096),
-                     0x800000 + 32 * k);
+        if (l->has_checksums && (k == l->count - 1 || drawn(2)))
+            draw_checksum(d, k);
+        else
+            dsa_put_move(d, page(drawn(12)), page(drawn(12)), 1 + drawn(4096), 0x800000 + 32 * k);
         memcpy(l->plain + 64 * k, d, 64);
         l->is_barrier[k] = drawn(3) == 0;
         if (l->is_barrier[k])
@@ -68,14 +93,70 @@ static void draw(struct list *l)
     }
 }
 
+/* Whether two spans share an address. */
+static int meet(uint64_t a, uint64_t a_len, uint64_t b, uint64_t b_len)
+{
+    return a < b + b_len && b < a + a_len;
+}
+
+/* What an operation reads, its source and its seed, and what it writes, its target and its record. */
+struct touched { uint64_t at[4], len[4]; };
+
+static struct touched touched_of(const uint8_t *d)
+{
+    struct touched t = {{0}, {0, 0, 0, 32}};
+    uint32_t size;
+    memcpy(&size, d + 32, 4);
+    memcpy(&t.at[0], d + 16, 8);
+    memcpy(&t.at[1], d + 48, 8);
+    memcpy(&t.at[2], d + 24, 8);
+    memcpy(&t.at[3], d + 8, 8);
+    t.len[0] = size;
+    t.len[1] = d[6] & 1 ? 4 : 0;
+    t.len[2] = d[7] == 0x10 ? 0 : size;
+    return t;
+}
+
+/* Whether one of two operations writes what the other reads or writes. */
+static int conflict(const struct list *l, size_t a, size_t b)
+{
+    const struct touched one = touched_of(l->bytes + 64 * a), other = touched_of(l->bytes + 64 * b);
+    for (int p = 0; p < 4; p++)
+        for (int q = 0; q < 4; q++)
+            if ((p > 1 || q > 1) && meet(one.at[p], one.len[p], other.at[q], other.len[q]))
+                return 1;
+    return 0;
+}
+
+/* What a group of this size with so many fences costs. */
+static uint64_t price(const struct list *l, size_t size, size_t fences)
+{
+    const struct dsa_settings *s = &l->settings;
+    if (size == 1)
+        return s->lone;
+    return (l->entries ? l->table[size - 2] : s->batch) + s->fence * fences;
+}
+
 /* The cost of the plan that the marks spell, if it is legal, whatever the barriers are. */
 static uint64_t judged(const struct list *l, const uint8_t *marks)
 {
-    struct dsa_refusal r;
-    uint64_t cost = UINT64_MAX;
-    return dsa_judge(&l->settings, l->table, l->entries, l->plain, 64 * l->count, marks, l->count, &cost, &r)
-               ? UINT64_MAX
-               : cost;
+    uint64_t cost = 0;
+    for (size_t first = 0, past = 0; first < l->count; first = past) {
+        size_t fences = 0, since = first;
+        for (past = first; past < l->count && (past == first || !(marks[past] & DSA_BEGINS)); past++) {
+            if (marks[past] & DSA_FENCED) {
+                fences++;
+                since = past;
+            }
+            for (size_t k = since; k < past; k++)
+                if (conflict(l, k, past))
+                    return UINT64_MAX;
+        }
+        if (past - first > l->settings.greatest_batch)
+            return UINT64_MAX;
+        cost += price(l, past - first, fences);
+    }
+    return cost;
 }
 
 /* The least cost of a plan with these marks for pieces before `next`, whatever the others are. */
@@ -140,33 +221,6 @@ static void try_list(const struct list *l)
         fail(l, "a list without barriers is planned otherwise", planned.cost, plain.cost);
 }
 
-/* Whether two spans share an address. */
-static int meet(uint64_t a, uint64_t a_len, uint64_t b, uint64_t b_len)
-{
-    return a < b + b_len && b < a + a_len;
-}
-
-/* Whether one of two moves writes what the other reads or writes, or a barrier is between them. */
-static int conflict(const struct list *l, size_t a, size_t b)
-{
-    uint64_t at[2][3], len[2][3] = {{0, 0, 32}, {0, 0, 32}};
-    const size_t of[2] = {a, b};
-    for (int k = 0; k < 2; k++) {
-        const uint8_t *d = l->bytes + 64 * of[k];
-        uint32_t size;
-        memcpy(&size, d + 32, 4);
-        memcpy(&at[k][0], d + 16, 8); /* read */
-        memcpy(&at[k][1], d + 24, 8); /* written, and the record too */
-        memcpy(&at[k][2], d + 8, 8);
-        len[k][0] = len[k][1] = size;
-    }
-    for (int p = 0; p < 3; p++)
-        for (int q = 0; q < 3; q++)
-            if (p + q && meet(at[0][p], len[0][p], at[1][q], len[1][q]))
-                return 1;
-    return b == a + 1 && l->is_barrier[b];
-}
-
 struct certificate {
     uint64_t prices[MOST + 1];
     struct dsa_pair pairs[MOST];
@@ -184,7 +238,7 @@ static struct certificate certificate_of(const struct list *l)
         c.pairs[i] = (struct dsa_pair){UINT32_MAX, UINT32_MAX};
         for (size_t b = i + 1; b < l->count && b < i + l->settings.greatest_batch; b++)
             for (size_t a = b; a-- > i && c.pairs[i].second == UINT32_MAX;)
-                if (conflict(l, a, b))
+                if (conflict(l, a, b) || (b == a + 1 && l->is_barrier[b]))
                     c.pairs[i] = (struct dsa_pair){(uint32_t)a, (uint32_t)b};
     }
     return c;
@@ -280,7 +334,8 @@ static void try_plans(const struct list *l, const struct certificate *c, uint8_t
     for (size_t k = 1; k < l->count; k++)
         want = l->is_barrier[k] && !marks[k] ? DSA_PLAN : want;
     const uint64_t own = judged(l, marks);
-    try_judging(l, marks, own);
+    if (!l->has_checksums)
+        try_judging(l, marks, own);
     if (own == UINT64_MAX)
         want = DSA_PLAN;
     else if (want == DSA_OK && own != c->prices[l->count])
@@ -364,6 +419,49 @@ static void try_checks(struct list *l)
     try_certified(l, &b, &planned);
 }
 
+/* Whether a refusal is that of the operation code of the first checksum. */
+static int is_refused(const struct list *l, uint32_t code, const struct dsa_refusal *r)
+{
+    size_t first = 0;
+    while (!(l->bytes[64 * first + 7] & 0x10))
+        first++;
+    return code == DSA_OPCODE && r->number == DSA_OPCODE && r->first == first;
+}
+
+/* Calls that take no checksums refuse the first one by its code, and so does what reads the bytes alone. */
+static void try_refused(const struct list *l)
+{
+    const struct dsa_settings *s = &l->settings;
+    const struct dsa_region region = {0, UINT64_C(1) << 40};
+    struct dsa_prepared_row rows[DSA_PREPARED_ROOM(2, MOST)];
+    struct dsa_prepared_info info;
+    struct dsa_reason reasons[MOST];
+    struct dsa_warning warnings[2 * MOST];
+    struct dsa_refusal r = {0};
+    struct bytes b;
+    struct dsa_planned planned;
+    uint8_t marks[MOST] = {DSA_BEGINS};
+    uint64_t cost = 7, count = 7, prices[MOST + 1] = {0};
+    struct dsa_pair pairs[MOST] = {{0, 0}};
+    const size_t len = 64 * l->count, room = sizeof rows / sizeof *rows;
+    uint32_t code = dsa_judge(s, l->table, l->entries, l->bytes, len, marks, l->count, &cost, &r);
+    int right = is_refused(l, code, &r);
+    code = dsa_prepare(s, l->table, l->entries, l->bytes, len, &region, 1, rows, room, &info, &r);
+    right &= is_refused(l, code, &r);
+    code = dsa_explain_list(s, l->table, l->entries, l->bytes, len, reasons, MOST, &count, &r);
+    right &= is_refused(l, code, &r);
+    code = dsa_warn_list(s, l->table, l->entries, l->bytes, len, warnings, 2 * MOST, &count, &r);
+    right &= is_refused(l, code, &r);
+    if (!right || cost != 7 || count != 7)
+        fail(l, "a checksum is not refused", r.number, 2);
+    code = dsa_plan_list(s, l->table, l->entries, l->bytes, len, b.portal, ROOM, b.staging, STAGED, &planned, &r);
+    if (code)
+        fail(l, "refused", code, 0);
+    if (dsa_check(s, l->table, l->entries, b.portal, planned.portal_len, b.staging, planned.staging_len, s->version,
+                  prices, l->count + 1, pairs, l->count, &cost, &r) != DSA_ENTRY || r.inner != DSA_OPCODE || cost != 7)
+        fail(l, "bytes with a checksum are not refused", r.number, r.inner);
+}
+
 /* What is filled of the prepared list is what planning it at its new addresses answers. */
 static void try_prepared(const struct list *l)
 {
@@ -430,7 +528,10 @@ int main(int argc, char **argv)
         draw(&l);
         try_list(&l);
         try_checks(&l);
-        try_prepared(&l);
+        if (l.has_checksums)
+            try_refused(&l);
+        else
+            try_prepared(&l);
         try_refusal(&l);
     }
     printf("%d lists with barriers\n", count);

@@ -1,5 +1,6 @@
-/* Measures how much stack each call takes, on lists of 2 to 65,536 moves: stack MOST_FOR_PLANNING MOST_FOR_CHECKING. It
- * prints the greatest number of bytes for each call, and fails where one is above what the header asks of a caller. */
+/* Measures how much stack each call takes, on lists of 2 to 65,536 moves, and, if it takes checksums, with one in place
+ * of the first move: stack MOST_FOR_PLANNING MOST_FOR_CHECKING. It prints the greatest number of bytes for each call,
+ * and fails if one is above what the header asks of a caller. */
 #include <pthread.h>
 #include <stdio.h>
 #include <stdlib.h>
@@ -139,9 +140,14 @@ int main(int argc, char **argv)
     for (int i = 0; i < 2; i++)
         limits[i] = strtoull(argv[i + 1], NULL, 10);
     size_t base = touched_by(nothing, 0);
-    for (int k = 0; k < 5; k++) {
-        put_moves(lengths[k]);
+    for (int k = 0; k < 10; k++) {
+        const int has_checksum = k % 2;
+        put_moves(lengths[k / 2]);
+        if (has_checksum)
+            list[7] = 0x11;
         for (int which = 0; which < CALLS; which++) {
+            if (has_checksum && which != 1 && which != 2 && which != 5)
+                continue; /* they refuse it */
             size_t bytes = touched_by(call, which) - base;
             greatest[which] = bytes > greatest[which] ? bytes : greatest[which];
         }

@@ -57,10 +57,11 @@ causes! {
     /// The list's length is no multiple of 64.
     Length = 1,
     /// Descriptor `first`: the operation code is not one of a move, fill, compare, compare pattern, delta
-    /// or dualcast.
+    /// or dualcast, or of a checksum if there may be one.
     Opcode = 2,
     /// Descriptor `first`: flags 0x0004 and 0x0008 have to be set; 0x0010 (interrupt), 0x0040 and bits 16
-    /// to 23 may not; 0x0001 (fence) only in lists with barriers; 0x0080 (check) only in compares.
+    /// to 23 (of a checksum 19 to 23) may not; 0x0001 (fence) only in lists with barriers; 0x0080 (check)
+    /// only in compares.
     FlagBits = 3,
     /// Descriptor `first`: a reserved bit or byte is not zero.
     Reserved = 4,
@@ -72,7 +73,8 @@ causes! {
     RecordAlign = 7,
     /// Descriptor `first`: the low twelve bits of a dualcast's destinations differ.
     DualcastBits = 8,
-    /// Descriptor `first`: two of a dualcast's ranges meet, or a delta's record and its destination.
+    /// Descriptor `first`: two of a dualcast's ranges meet, or a delta's record and its destination, or
+    /// what a copy with CRC reads and its destination.
     Overlap = 9,
     /// Descriptor `first`: a delta's size is no multiple of 8 or above 0x80000, its destination no multiple
     /// of 8, or its record's size no multiple of 10.

@@ -83,6 +83,30 @@ impl Descriptor {
         Descriptor::of(0x09, source, first, size, second, record)
     }
 
+    /// The checksum (CRC-32C) of a range, the number in bytes 16 to 19 of the record, as one checksum of what `seed` is
+    /// that of and of the range; 0 for that of the range alone. [`plan_list`](crate::plan_list),
+    /// [`plan_into`](crate::plan_into) and [`check_list`](crate::check_list) take checksums.
+    #[must_use]
+    pub fn crc(source: u64, size: u32, seed: u32, record: u64) -> Descriptor {
+        Descriptor::of(0x10, source, 0, size, u64::from(seed), record)
+    }
+
+    /// The same, and the range is moved to `target`, which may not meet it.
+    #[must_use]
+    pub fn copy_crc(source: u64, target: u64, size: u32, seed: u32, record: u64) -> Descriptor {
+        Descriptor::of(0x11, source, target, size, u64::from(seed), record)
+    }
+
+    /// Of a checksum, the same whose seed is read from the four bytes at `seed` when it is made. At `record + 16` of an
+    /// earlier checksum, the two make one checksum of both ranges.
+    #[must_use]
+    pub fn seeded_from(mut self, seed: u64) -> Descriptor {
+        self.0[6] |= 0x01;
+        self.0[40..48].fill(0);
+        self.0[48..56].copy_from_slice(&seed.to_le_bytes());
+        self
+    }
+
     /// The same with further flags of the lower 16, as [`BLOCK_ON_FAULT`].
     #[must_use]
     pub fn with_flags(mut self, flags: u16) -> Descriptor {

@@ -333,6 +333,9 @@ pub fn plan_into(
 /// all operations before it have ended with status 1. No legal plan that keeps each barrier costs less. The
 /// certificate is for [`check_list`], and without barriers for [`check`], too.
 ///
+/// Of a list with a checksum ([`Descriptor::crc`], [`Descriptor::copy_crc`]) no operation is split. What such a list
+/// leaves in memory is not proved, and [`check`] does not take it.
+///
 /// # Errors
 /// The first fault of the list or the settings; [`Cause::Memory`].
 ///

@@ -29,6 +29,12 @@ fn descriptors_have_their_fields() {
     let twice = Descriptor::dualcast(0x1000, 0x2000, 0x5000, 64, 0x8000);
     let own = 0x0050_0000_0000_0000;
     assert_eq!(words(twice), [0x0c00_0009, record, source, target, size, own, 0, 0]);
+    let sum = Descriptor::crc(0x1000, 64, 5, 0x8000);
+    let (size, seed) = (0x4000_0000_0000_0000, 0x0500_0000_0000_0000);
+    assert_eq!(words(sum), [0x0c00_0010, record, source, 0, size, seed, 0, 0]);
+    let copied = Descriptor::copy_crc(0x1000, 0x2000, 64, 5, 0x8000).seeded_from(0x8030);
+    let place = 0x3080_0000_0000_0000;
+    assert_eq!(words(copied), [0x0c00_0111, record, source, target, size, 0, place, 0]);
     assert_eq!(list_of(&[moved, twice]), [moved.0, twice.0].concat());
 }
 

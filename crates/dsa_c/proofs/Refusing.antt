@@ -1,20 +1,23 @@
 -- Why calls refuse, and what planning answers.
-use Rattle.std.proofs.Common.{List, Result, ℕ, ◌≡◌, ◌⊎◌, ◌<◌, Ok, Err, inl, inr, length, refl, ap, subst, ◌∙◌, arith}
+use Rattle.std.proofs.Common.{List, Result, ℕ, ◌≡◌, ◌⊎◌, ◌<◌, Ok, Err, inl, inr, length, refl, sym, ap, subst, ◌∙◌, arith}
 use Rattle.dsa_plan.specs.Settings.{Limits}
 use Rattle.dsa_plan.specs.Certificate.{Contents}
+use Rattle.dsa_plan.specs.Plan.{piece_count}
 use Rattle.dsa_calls.specs.declared.fault.PlanFault.{PlanFault}
 use Rattle.dsa_calls.specs.declared.fault.PlanFault.TheVariants.{Memory}
 use Rattle.dsa_calls.specs.Planned.{Submission}
 use Rattle.dsa_calls.specs.Fenced.{IsFencedLeast, PlansFenced}
 use Rattle.dsa_calls.specs.declared.checking.FencedFault.{FencedFault}
 use Rattle.dsa_calls.specs.declared.checking.FencedFault.TheVariants.{Call}
-use Rattle.dsa_calls.specs.FencedChecked.{ChecksFenced, IsLeastEmission}
+use Rattle.dsa_calls.specs.FencedChecked.{ChecksFenced}
+use Rattle.dsa_operations.specs.AnyLists.{ChecksAnyList, IsLeastEmissionOfAnyList, IsLeastOfAnyList, PlansAnyList}
+use Rattle.dsa_operations.specs.Submissions.{OperationSubmission}
 use Rattle.dsa_calls.proofs.FencedChecked.{fenced_plan_is_checked}
 use Rattle.dsa_c.specs.declared.settings.RawSettings.{RawSettings}
 use Rattle.dsa_c.specs.declared.refusal.RawRefusal.{RawRefusal}
 use Rattle.dsa_c.specs.Raw.{limits_of, AreSettings, RefusesUnder, refusal_of, no_room}
 use Rattle.dsa_c.specs.Checking.{IsCheckedListCost}
-use Rattle.dsa_c.specs.Planning.{IsPlannedFor, Refuses, RefusesToPlan}
+use Rattle.dsa_c.specs.Planning.{IsPlannedFor, IsPlannedList, Refuses, RefusesToPlan}
 
 -- what planning answers under the settings that the numbers are
 pub planned_for : (s : RawSettings) (table list : List ℕ) (l : Limits) (p : Submission) → l ≡ limits_of s table → AreSettings s table
@@ -39,8 +42,29 @@ pub refuses_list : (s : RawSettings) (table list : List ℕ) (l : Limits) (fault
     → (fault ≡ Memory) ⊎ PlansFenced list l (Err fault) → r ≡ refusal_of fault → RefusesToPlan s table list r
 refuses_list s table list l fault r = refuses refusal_of (λ x f. PlansFenced list x (Err f)) Memory s table l fault r refl
 
+-- what planning a list that may have checksums answers under the settings that the numbers are
+pub planned_list : (s : RawSettings) (table list : List ℕ) (l : Limits) (p : OperationSubmission) → l ≡ limits_of s table → AreSettings s table
+    → PlansAnyList list l (Ok p) → IsLeastOfAnyList list l p → ChecksAnyList list p.portal p.staging l p.certificate (Ok p.cost) → IsPlannedList s table list p
+planned_list s table list l p is are planned least checks =
+    record {
+      settings = are;
+      planned = subst (λ (x : Limits). PlansAnyList list x (Ok p)) is planned;
+      least = subst (λ (x : Limits). IsLeastOfAnyList list x p) is least;
+      checks = subst (λ (x : Limits). ChecksAnyList list p.portal p.staging x p.certificate (Ok p.cost)) is checks;
+    }
+
+-- its plan has as many pieces as were planned
+pub as_many : (list : List ℕ) (l : Limits) (p : OperationSubmission) → IsLeastOfAnyList list l p → piece_count p.plan ≡ p.pieces
+as_many list l p (inl (q, least, is)) = ap (λ (x : OperationSubmission). piece_count x.plan) is ∙ least.least.legal.covers ∙ sym (ap (λ (x : OperationSubmission). x.pieces) is)
+as_many list l p (inr least) = least.least.legal.covers ∙ sym least.pieces_are
+
+-- planning it refuses
+pub refuses_any_list : (s : RawSettings) (table list : List ℕ) (l : Limits) (fault : PlanFault) (r : RawRefusal) → l ≡ limits_of s table → AreSettings s table
+    → (fault ≡ Memory) ⊎ PlansAnyList list l (Err fault) → r ≡ refusal_of fault → RefusesUnder refusal_of (λ x f. PlansAnyList list x (Err f)) s table r
+refuses_any_list s table list l fault r = refuses refusal_of (λ x f. PlansAnyList list x (Err f)) Memory s table l fault r refl
+
 -- a buffer is too small
-pub refuses_buffers : (s : RawSettings) (table list : List ℕ) (portal staging : ℕ) (p : Submission) (r : RawRefusal) → IsPlannedFor s table list p
+pub refuses_buffers : (s : RawSettings) (table list : List ℕ) (portal staging : ℕ) (p : OperationSubmission) (r : RawRefusal) → IsPlannedList s table list p
     → (portal < length p.portal) ⊎ (staging < length p.staging) → r ≡ no_room (length p.portal) (length p.staging) → Refuses s table list portal staging r
 refuses_buffers s table list portal staging p r planned (inl short) value = inr (p, planned, (λ fits. omega (arith, fits.0, short)), value)
 refuses_buffers s table list portal staging p r planned (inr short) value = inr (p, planned, (λ fits. omega (arith, fits.1, short)), value)
@@ -55,13 +79,13 @@ list_fault Refused fault (inr refused) = inr refused
 
 -- what checking for a list answers
 pub checked_list_cost : (s : RawSettings) (table list portal staging : List ℕ) (l : Limits) (c d : Contents) (cost : ℕ) → l ≡ limits_of s table → AreSettings s table → d ≡ c
-    → (◌≡◌ {A = Result ℕ FencedFault} (Ok cost) (Err (Call Memory))) ⊎ ChecksFenced list portal staging l d (Ok cost) → IsLeastEmission list portal staging l cost
+    → (◌≡◌ {A = Result ℕ FencedFault} (Ok cost) (Err (Call Memory))) ⊎ ChecksAnyList list portal staging l d (Ok cost) → IsLeastEmissionOfAnyList list portal staging l cost
     → IsCheckedListCost s table list portal staging c cost
 checked_list_cost s table list portal staging l c d cost is are same (inl memory) least = cc
 checked_list_cost s table list portal staging l c d cost is are same (inr checks) least =
-    let for_c = subst (λ (x : Contents). ChecksFenced list portal staging l x (Ok cost)) same checks in
+    let for_c = subst (λ (x : Contents). ChecksAnyList list portal staging l x (Ok cost)) same checks in
     record {
       settings = are;
-      checks = subst (λ (x : Limits). ChecksFenced list portal staging x c (Ok cost)) is for_c;
-      least = subst (λ (x : Limits). IsLeastEmission list portal staging x cost) is least;
+      checks = subst (λ (x : Limits). ChecksAnyList list portal staging x c (Ok cost)) is for_c;
+      least = subst (λ (x : Limits). IsLeastEmissionOfAnyList list portal staging x cost) is least;
     }

@@ -11,7 +11,7 @@ use Rattle.dsa_plan.specs.Certificate.{Contents}
 use Rattle.dsa_calls.specs.declared.checking.FencedFault.{FencedFault}
 use Rattle.dsa_calls.specs.declared.checking.FencedFault.TheVariants.{Call, OtherPiece}
 use Rattle.dsa_calls.specs.Checked.{Checks}
-use Rattle.dsa_calls.specs.FencedChecked.{ChecksFenced, IsLeastEmission}
+use Rattle.dsa_operations.specs.AnyLists.{ChecksAnyList, IsLeastEmissionOfAnyList}
 use Rattle.dsa_c.specs.declared.settings.RawSettings.{RawSettings}
 use Rattle.dsa_c.specs.declared.refusal.RawRefusal.{RawRefusal}
 use Rattle.dsa_c.specs.Preparing.{refusal_at}
@@ -37,14 +37,14 @@ abbrev pub list_refusal_of : FencedFault → RawRefusal
 list_refusal_of (Call fault) = refusal_of fault
 list_refusal_of (OtherPiece piece) = refusal_at 66 piece 0
 
--- checking for the list, whose fences are barriers, answers this cost, so the bytes submit its pieces by a plan that keeps
--- the barriers, and no legal plan that does costs less, whoever wrote the certificate
+-- checking for the list, which may have checksums and whose fences are barriers, answers this cost, so the bytes submit its
+-- pieces by a plan that keeps the barriers, and no legal plan that does costs less, whoever wrote the certificate
 pub record IsCheckedListCost (s : RawSettings) (table list portal staging : List ℕ) (c : Contents) (cost : ℕ) : Type 0 where
   pub settings : AreSettings s table
-  pub checks : ChecksFenced list portal staging (limits_of s table) c (Ok cost)
-  pub least : IsLeastEmission list portal staging (limits_of s table) cost
+  pub checks : ChecksAnyList list portal staging (limits_of s table) c (Ok cost)
+  pub least : IsLeastEmissionOfAnyList list portal staging (limits_of s table) cost
 
 -- why checking for the list refuses
 abbrev pub RefusesCheckList : RawSettings → List ℕ → List ℕ → List ℕ → List ℕ → Contents → RawRefusal → Type 0
 RefusesCheckList s table list portal staging c r =
-    RefusesUnder list_refusal_of (λ l fault. ChecksFenced list portal staging l c (Err fault)) s table r
+    RefusesUnder list_refusal_of (λ l fault. ChecksAnyList list portal staging l c (Err fault)) s table r

@@ -5,10 +5,12 @@ use Rattle.dsa_calls.specs.Fenced.{HasNoFences}
 use Rattle.dsa_calls.specs.Judge.{Judges}
 use Rattle.dsa_calls.specs.Laws.{IsLeastAndShown}
 use Rattle.dsa_calls.specs.Planned.{Submission, Plans}
+use Rattle.dsa_operations.specs.AnyLists.{IsOfDescriptors, counted}
+use Rattle.dsa_operations.specs.Submissions.{OperationSubmission}
 use Rattle.dsa_c.specs.declared.settings.RawSettings.{RawSettings}
 use Rattle.dsa_c.specs.Marks.{marks_of, plan_of, begins_group}
 use Rattle.dsa_c.specs.Judging.{IsJudgedCost}
-use Rattle.dsa_c.specs.Planning.{IsPlannedFor}
+use Rattle.dsa_c.specs.Planning.{IsPlannedList}
 use Rattle.dsa_c.specs.Raw.{limits_of, AreSettings}
 
 -- the marks of a plan spell it, and there are as many marks as pieces
@@ -29,12 +31,16 @@ AreMarks (first ∷ rest) = (begins_group first ≡ true) × All (λ mark. mark 
 abbrev pub PlansSpellMarks : Type 0
 PlansSpellMarks = (marks : List ℕ) → AreMarks marks → marks_of (plan_of marks) ≡ marks
 
--- a list without the flag is planned as without barriers: no legal plan of its pieces costs less, the certificate is good,
--- and checking the bytes alone with it answers the cost
+-- this is what planning a list without barriers answers, with its pieces: no legal plan of these costs less, the certificate
+-- is good, and checking the bytes alone with it answers the cost
+abbrev pub IsPlannedWithoutBarriers : RawSettings → List ℕ → List ℕ → Submission → Type 0
+IsPlannedWithoutBarriers s table list p = Plans list (limits_of s table) (Ok p) × IsLeastAndShown (limits_of s table) p
+
+-- a list of descriptors without the flag is planned so
 abbrev pub PlannedWithoutFences : Type 0
-PlannedWithoutFences = (s : RawSettings) (table list : List ℕ) (p : Submission) →
-    HasNoFences list → IsPlannedFor s table list p →
-    AreSettings s table × Plans list (limits_of s table) (Ok p) × IsLeastAndShown (limits_of s table) p
+PlannedWithoutFences = (s : RawSettings) (table list : List ℕ) (p : OperationSubmission) →
+    HasNoFences list → IsOfDescriptors list → IsPlannedList s table list p →
+    AreSettings s table × ((q : Submission) × (p ≡ counted q) × IsPlannedWithoutBarriers s table list q)
 
 -- and judged so
 abbrev pub JudgedWithoutFences : Type 0

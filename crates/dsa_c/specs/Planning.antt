@@ -4,6 +4,8 @@ use Rattle.dsa_c.specs.Marks.{marks_of}
 use Rattle.dsa_calls.specs.Fenced.{AreFencedPieces, IsFencedLeast, PlansFenced}
 use Rattle.dsa_calls.specs.FencedChecked.{ChecksFenced}
 use Rattle.dsa_calls.specs.Planned.{Submission}
+use Rattle.dsa_operations.specs.AnyLists.{ChecksAnyList, IsLeastOfAnyList, PlansAnyList}
+use Rattle.dsa_operations.specs.Submissions.{OperationSubmission}
 use Rattle.dsa_descriptor.specs.declared.descriptor.Descriptor.{Descriptor}
 use Rattle.dsa_plan.specs.Plan.{Plan}
 use Rattle.dsa_c.specs.declared.settings.RawSettings.{RawSettings}
@@ -14,50 +16,61 @@ use Rattle.dsa_c.specs.Raw.{limits_of, AreSettings, RefusesUnder, written, refus
 use Rattle.dsa_c.specs.Certificates.{raw_pair_of}
 use Rattle.dsa_c.specs.Preparing.{refusal_at}
 
--- this is what planning the bytes answers, whose fences are barriers: the plan is legal with them, no such plan costs less,
--- the certificate is good for its cost, and checking the bytes that submit it for the list, with the certificate, answers
--- the cost
+-- this is what planning a list of descriptors answers, whose fences are barriers: the plan is legal with them, no such plan
+-- costs less, the certificate is good for its cost, and checking the bytes that submit it for the list, with the
+-- certificate, answers the cost
 pub record IsPlannedFor (s : RawSettings) (table list : List ℕ) (p : Submission) : Type 0 where
   pub settings : AreSettings s table
   pub planned : PlansFenced list (limits_of s table) (Ok p)
   pub least : IsFencedLeast list (limits_of s table) p
   pub checks : ChecksFenced list p.portal p.staging (limits_of s table) p.certificate (Ok p.cost)
 
+-- why a list of descriptors is not planned
+abbrev pub RefusesToPlan : RawSettings → List ℕ → List ℕ → RawRefusal → Type 0
+RefusesToPlan s table list r = RefusesUnder refusal_of (λ l fault. PlansFenced list l (Err fault)) s table r
+
+-- ---- lists that may have checksums
+
+-- this is what planning the bytes answers, whose fences are barriers: the plan is legal with them, no such plan costs less,
+-- the certificate is good for its cost, and checking the bytes that submit it for the list, with the certificate, answers
+-- the cost
+pub record IsPlannedList (s : RawSettings) (table list : List ℕ) (p : OperationSubmission) : Type 0 where
+  pub settings : AreSettings s table
+  pub planned : PlansAnyList list (limits_of s table) (Ok p)
+  pub least : IsLeastOfAnyList list (limits_of s table) p
+  pub checks : ChecksAnyList list p.portal p.staging (limits_of s table) p.certificate (Ok p.cost)
+
 -- the cost, the number of pieces, and how many bytes are written
-abbrev pub summary_of : Submission → RawPlanned
-summary_of p = record { cost = p.cost; pieces = length p.pieces; portal_len = length p.portal; staging_len = length p.staging }
+abbrev pub summary_of : OperationSubmission → RawPlanned
+summary_of p = record { cost = p.cost; pieces = p.pieces; portal_len = length p.portal; staging_len = length p.staging }
 
 -- what is written fits in buffers of these lengths
-abbrev pub FitsIn : Submission → ℕ → ℕ → Type 0
+abbrev pub FitsIn : OperationSubmission → ℕ → ℕ → Type 0
 FitsIn p portal staging = (length p.portal ≤ portal) × (length p.staging ≤ staging)
 
 -- the emission of the planned list is at the front of the two buffers, whose rest is unchanged, and this is its summary
 pub record IsWritten (s : RawSettings) (table list portal new_portal staging new_staging : List ℕ) (summary : RawPlanned) : Type 0 where
-  pub submission : Submission
-  pub planned : IsPlannedFor s table list submission
+  pub submission : OperationSubmission
+  pub planned : IsPlannedList s table list submission
   pub fits : FitsIn submission (length portal) (length staging)
   pub portal_is : new_portal ≡ written submission.portal portal
   pub staging_is : new_staging ≡ written submission.staging staging
   pub summary_is : summary ≡ summary_of submission
 
--- why a list is not planned
-abbrev pub RefusesToPlan : RawSettings → List ℕ → List ℕ → RawRefusal → Type 0
-RefusesToPlan s table list r = RefusesUnder refusal_of (λ l fault. PlansFenced list l (Err fault)) s table r
-
 -- why nothing is written: the list is not planned; or the bytes of what it answers don't fit, and this is what they need
 abbrev pub Refuses : RawSettings → List ℕ → List ℕ → ℕ → ℕ → RawRefusal → Type 0
 Refuses s table list portal staging r =
-    RefusesToPlan s table list r
-    ⊎ ((p : Submission) × IsPlannedFor s table list p × (¬ FitsIn p portal staging) × (r ≡ no_room (length p.portal) (length p.staging)))
+    RefusesUnder refusal_of (λ l fault. PlansAnyList list l (Err fault)) s table r
+    ⊎ ((p : OperationSubmission) × IsPlannedList s table list p × (¬ FitsIn p portal staging) × (r ≡ no_room (length p.portal) (length p.staging)))
 
 -- the certificate and the marks of the pieces fit in arrays of these lengths: n + 1 prices, n pairs and n marks of n pieces
-abbrev pub CertificateFitsIn : Submission → ℕ → ℕ → ℕ → Type 0
-CertificateFitsIn p prices pairs marks = (length p.pieces + 1 ≤ prices) × (length p.pieces ≤ pairs) × (length p.pieces ≤ marks)
+abbrev pub CertificateFitsIn : OperationSubmission → ℕ → ℕ → ℕ → Type 0
+CertificateFitsIn p prices pairs marks = (p.pieces + 1 ≤ prices) × (p.pieces ≤ pairs) × (p.pieces ≤ marks)
 
 -- the same as IsWritten, with the certificate and the marks of the groups and fences at the front of their arrays
 pub record IsCertifiedWritten (s : RawSettings) (table list portal new_portal staging new_staging prices new_prices : List ℕ) (pairs new_pairs : List RawPair) (marks new_marks : List ℕ) (summary : RawPlanned) : Type 0 where
-  pub submission : Submission
-  pub planned : IsPlannedFor s table list submission
+  pub submission : OperationSubmission
+  pub planned : IsPlannedList s table list submission
   pub fits : FitsIn submission (length portal) (length staging)
   pub certificate_fits : CertificateFitsIn submission (length prices) (length pairs) (length marks)
   pub portal_is : new_portal ≡ written submission.portal portal
@@ -72,8 +85,8 @@ pub record IsCertifiedWritten (s : RawSettings) (table list portal new_portal st
 abbrev pub RefusesCertified : RawSettings → List ℕ → List ℕ → ℕ → ℕ → ℕ → ℕ → ℕ → RawRefusal → Type 0
 RefusesCertified s table list portal staging prices pairs marks r =
     Refuses s table list portal staging r
-    ⊎ ((p : Submission) × IsPlannedFor s table list p × FitsIn p portal staging × (¬ CertificateFitsIn p prices pairs marks)
-    × (r ≡ no_room_for_certificate (length p.pieces)))
+    ⊎ ((p : OperationSubmission) × IsPlannedList s table list p × FitsIn p portal staging × (¬ CertificateFitsIn p prices pairs marks)
+    × (r ≡ no_room_for_certificate p.pieces))
 
 -- ---- what is said of a plan, item by item, into an array
 

@@ -3,9 +3,9 @@
 ghost use Rattle.std.specs.Prelude.{◌≡◌, ◌≢◌, ◌⊎◌, ◌<◌, length, MatchResult};
 ghost use Rattle.dsa_c.specs.Marks.{marks_of};
 ghost use Rattle.dsa_calls.specs.declared.fault.PlanFault.TheVariants.{Memory};
-ghost use Rattle.dsa_calls.specs.Planned.{submission_of};
+ghost use Rattle.dsa_operations.specs.Submissions.{operation_submission_of};
 ghost use Rattle.dsa_c.specs.Raw.{no_room_for_certificate, refusal_of};
-ghost use Rattle.dsa_c.specs.Planning.{IsPlannedFor, FitsIn, CertificateFitsIn, IsCertifiedWritten, RefusesCertified};
+ghost use Rattle.dsa_c.specs.Planning.{IsPlannedList, FitsIn, CertificateFitsIn, IsCertifiedWritten, RefusesCertified};
 
 use crate::buffer::put;
 use crate::certificate::{RawPair, put_pairs};
@@ -13,13 +13,14 @@ use crate::marks::marks_of;
 use crate::planning::{RawPlanned, plan_for, summary};
 use crate::refusal::{RawRefusal, no_room_for_certificate, refusal};
 use crate::settings::RawSettings;
-use dsa_calls::{PlanFault, Planned};
+use dsa_calls::PlanFault;
+use dsa_operations::PlannedOperations;
 use std::alloc::Global;
 
 /// A planned list, and the marks of its pieces.
 #[derive(Drop)]
 struct Certified {
-    planned: Planned,
+    planned: PlannedOperations,
     marks: Vec<u8>,
 }
 
@@ -34,17 +35,21 @@ struct Rooms {
 }
 
 /// What is planned with the marks of its pieces, if these and the certificate fit.
-fn certified_of(alloc: Global, planned: Planned, rooms: Rooms) -> Result<Certified, RawRefusal>
+fn certified_of(
+    alloc: Global,
+    planned: PlannedOperations,
+    rooms: Rooms,
+) -> Result<Certified, RawRefusal>
     ensures { MatchResult result
         (λ x. (x.planned ≡ planned)
-        × CertificateFitsIn (submission_of planned) rooms.prices rooms.pairs rooms.marks
+        × CertificateFitsIn (operation_submission_of planned) rooms.prices rooms.pairs rooms.marks
         × (x.marks.items ≡ marks_of planned.plan))
         (λ r. (0 < r.number)
         × ((r ≡ refusal_of Memory)
-        ⊎ ((¬ CertificateFitsIn (submission_of planned) rooms.prices rooms.pairs rooms.marks)
-        × (r ≡ no_room_for_certificate (length (submission_of planned).pieces))))) }
+        ⊎ ((¬ CertificateFitsIn (operation_submission_of planned)
+        rooms.prices rooms.pairs rooms.marks) × (r ≡ no_room_for_certificate planned.pieces)))) }
 {
-    let pieces = planned.pieces.len();
+    let pieces = planned.pieces;
     if rooms.prices <= pieces || rooms.pairs < pieces || rooms.marks < pieces {
         return Err(no_room_for_certificate(pieces));
     }
@@ -63,9 +68,9 @@ fn certified_for(
     rooms: Rooms,
 ) -> Result<Certified, RawRefusal>
     ensures { MatchResult result
-        (λ x. IsPlannedFor settings.now table.now list.now (submission_of x.planned)
-        × FitsIn (submission_of x.planned) rooms.portal rooms.staging
-        × CertificateFitsIn (submission_of x.planned) rooms.prices rooms.pairs rooms.marks
+        (λ x. IsPlannedList settings.now table.now list.now (operation_submission_of x.planned)
+        × FitsIn (operation_submission_of x.planned) rooms.portal rooms.staging
+        × CertificateFitsIn (operation_submission_of x.planned) rooms.prices rooms.pairs rooms.marks
         × (x.marks.items ≡ marks_of x.planned.plan))
         (λ r. (0 < r.number)
         × RefusesCertified settings.now table.now list.now

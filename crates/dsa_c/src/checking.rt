@@ -7,7 +7,8 @@ ghost use Rattle.dsa_c.specs.Checking.{IsCheckedCost, IsCheckedListCost, Refuses
 use crate::certificate::{RawPair, certificate_of};
 use crate::refusal::{RawRefusal, refusal, refusal_at};
 use crate::settings::{RawSettings, settings_of, settings_refusal};
-use dsa_calls::{FencedFault, PlanFault, check_bytes, check_fenced_list};
+use dsa_calls::{FencedFault, PlanFault, check_bytes};
+use dsa_operations::check_any_list;
 use std::alloc::Global;
 
 /// The number of the refusal of a piece that is not the list's.
@@ -124,16 +125,16 @@ fn check_list_for(
     let Ok(certificate) = certificate_of(alloc, given.version, given.prices, given.pairs) else {
         return Err(refusal(PlanFault::Memory));
     };
-    match check_fenced_list(alloc, list, portal, staging, &checked, &certificate) {
+    match check_any_list(alloc, list, portal, staging, &checked, &certificate) {
         Ok(cost) => Ok(cost),
         Err(fault) => Err(list_refusal(fault)),
     }
 }
 
-/// Checks the bytes of a portal and a staging area as [`dsa_check`] does, for a list whose fences are barriers: writes
-/// the cost of their plan to `cost` if they submit the pieces of the list, the plan keeps each barrier, and no legal
-/// plan that does costs less. It returns 0 then; else it returns the number of the refusal, and has written only
-/// `refusal`.
+/// Checks the bytes of a portal and a staging area as [`dsa_check`] does, for a list whose fences are barriers and that
+/// may have checksums: writes the cost of their plan to `cost` if they submit the pieces of the list, the plan keeps
+/// each barrier, and no legal plan that does costs less. It returns 0 then; else it returns the number of the refusal,
+/// and has written only `refusal`.
 #[unsafe(no_mangle)]
 pub extern "C" fn dsa_check_list(
     alloc: Global,

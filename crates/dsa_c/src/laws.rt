@@ -15,8 +15,8 @@ pub fn plans_spell_marks()
     ensures { PlansSpellMarks }
 {}
 
-/// A list without the flag 0x0001, fence, is planned as [`plan_list`](dsa_calls::plan_list()) plans it, at the cost
-/// that no legal plan of its pieces undercuts. This is a law too.
+/// A list of descriptors without the flag 0x0001, fence, is planned as [`plan_list`](dsa_calls::plan_list()) plans it,
+/// at the cost that no legal plan of its pieces undercuts. This is a law too.
 pub fn planned_without_fences()
     ensures { PlannedWithoutFences }
 {}

@@ -4,12 +4,14 @@ ghost use Rattle.std.specs.Prelude.{◌≡◌, ◌≢◌, ℕ, ◌<◌, List, le
 ghost use Rattle.dsa_calls.specs.Planned.{submission_of};
 ghost use Rattle.dsa_c.specs.declared.settings.RawSettings.{RawSettings};
 ghost use Rattle.dsa_c.specs.Raw.{AreSettings, limits_of};
-ghost use Rattle.dsa_c.specs.Planning.{IsPlannedFor, IsPlannedWith, FitsIn, IsWritten, Refuses, RefusesToPlan, summary_of};
+ghost use Rattle.dsa_operations.specs.Submissions.{operation_submission_of};
+ghost use Rattle.dsa_c.specs.Planning.{IsPlannedList, IsPlannedWith, FitsIn, IsWritten, Refuses, RefusesToPlan, summary_of};
 
 use crate::buffer::put;
 use crate::refusal::{RawRefusal, no_room, refusal};
 use crate::settings::{RawSettings, by_size, same_price, settings_of, settings_refusal};
 use dsa_calls::{Planned, plan_fenced_list};
+use dsa_operations::{PlannedOperations, plan_any_list};
 use dsa_plan::Settings;
 use std::alloc::Global;
 
@@ -28,18 +30,18 @@ pub struct RawPlanned {
 }
 
 /// The cost of the planned list, and the lengths of what is written for it.
-pub(crate) fn summary(planned: &Planned) -> RawPlanned
-    ensures { result ≡ summary_of (submission_of planned.now) }
+pub(crate) fn summary(planned: &PlannedOperations) -> RawPlanned
+    ensures { result ≡ summary_of (operation_submission_of planned.now) }
 {
     RawPlanned {
         cost: planned.cost,
-        pieces: planned.pieces.len() as u64,
+        pieces: planned.pieces as u64,
         portal_len: planned.emission.portal.len() as u64,
         staging_len: planned.emission.staging.len() as u64,
     }
 }
 
-/// The planned list with the barriers of its pieces, however many bytes it has.
+/// The planned list of descriptors with the barriers of its pieces, however many bytes it has.
 #[inline(always)]
 pub(crate) fn planned_for(
     alloc: Global,
@@ -67,14 +69,14 @@ fn plan_under(
     list: &[u8],
     portal_room: usize,
     staging_room: usize,
-) -> Result<Planned, RawRefusal>
+) -> Result<PlannedOperations, RawRefusal>
     ensures { (raw : RawSettings) (table : List ℕ) → settings.now ≡ limits_of raw table →
         AreSettings raw table → MatchResult result
-        (λ p. IsPlannedFor raw table list.now (submission_of p)
-        × FitsIn (submission_of p) portal_room staging_room)
+        (λ p. IsPlannedList raw table list.now (operation_submission_of p)
+        × FitsIn (operation_submission_of p) portal_room staging_room)
         (λ r. (0 < r.number) × Refuses raw table list.now portal_room staging_room r) }
 {
-    match plan_fenced_list(alloc, list, settings) {
+    match plan_any_list(alloc, list, settings) {
         Ok(planned) => {
             let portal_len = planned.emission.portal.len();
             let staging_len = planned.emission.staging.len();
@@ -98,11 +100,11 @@ fn plan_by_size(
     list: &[u8],
     portal_room: usize,
     staging_room: usize,
-) -> Result<Planned, RawRefusal>
+) -> Result<PlannedOperations, RawRefusal>
     requires { settings.now.version ≡ 2 }
     ensures { MatchResult result
-        (λ p. IsPlannedFor settings.now table.now list.now (submission_of p)
-        × FitsIn (submission_of p) portal_room staging_room)
+        (λ p. IsPlannedList settings.now table.now list.now (operation_submission_of p)
+        × FitsIn (operation_submission_of p) portal_room staging_room)
         (λ r. (0 < r.number)
         × Refuses settings.now table.now list.now portal_room staging_room r) }
 {
@@ -121,11 +123,11 @@ fn plan_at_one_price(
     list: &[u8],
     portal_room: usize,
     staging_room: usize,
-) -> Result<Planned, RawRefusal>
+) -> Result<PlannedOperations, RawRefusal>
     requires { settings.now.version ≡ 1 }
     ensures { MatchResult result
-        (λ p. IsPlannedFor settings.now table.now list.now (submission_of p)
-        × FitsIn (submission_of p) portal_room staging_room)
+        (λ p. IsPlannedList settings.now table.now list.now (operation_submission_of p)
+        × FitsIn (operation_submission_of p) portal_room staging_room)
         (λ r. (0 < r.number)
         × Refuses settings.now table.now list.now portal_room staging_room r) }
 {
@@ -147,10 +149,10 @@ pub(crate) fn plan_for(
     list: &[u8],
     portal_room: usize,
     staging_room: usize,
-) -> Result<Planned, RawRefusal>
+) -> Result<PlannedOperations, RawRefusal>
     ensures { MatchResult result
-        (λ p. IsPlannedFor settings.now table.now list.now (submission_of p)
-        × FitsIn (submission_of p) portal_room staging_room)
+        (λ p. IsPlannedList settings.now table.now list.now (operation_submission_of p)
+        × FitsIn (operation_submission_of p) portal_room staging_room)
         (λ r. (0 < r.number)
         × Refuses settings.now table.now list.now portal_room staging_room r) }
 {
@@ -163,10 +165,10 @@ pub(crate) fn plan_for(
     Err(settings_refusal(settings))
 }
 
-/// Plans the operations that the bytes of `list` spell, and writes the bytes that submit the plan of least cost to
-/// `portal` and `staging`. An operation with the flag 0x0001, fence, begins after a barrier; if it is split, its first
-/// piece does. The plan keeps each barrier, and no legal plan that does costs less. It returns 0 then; else it returns
-/// the number of the refusal, and has written only `refusal`.
+/// Plans the operations that the bytes of `list` spell, checksums too, and writes the bytes that submit the plan of
+/// least cost to `portal` and `staging`. An operation with the flag 0x0001, fence, begins after a barrier; if it is
+/// split, its first piece does. The plan keeps each barrier, and no legal plan that does costs less. It returns 0 then;
+/// else it returns the number of the refusal, and has written only `refusal`.
 #[unsafe(no_mangle)]
 pub extern "C" fn dsa_plan_list(
     alloc: Global,

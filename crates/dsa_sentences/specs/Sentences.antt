@@ -6,14 +6,14 @@ use Rattle.std.specs.Prelude.{ℕ, List, [], codes, ◌==◌, nat_lt, if◌then�
 unfoldable pub of_lists : ℕ → List ℕ
 of_lists n =
     if n == 1 then codes "the list's length is no multiple of 64" else
-    if n == 2 then codes "descriptor #: the operation code is not one of a move, fill, compare, compare pattern, delta or dualcast" else
-    if n == 3 then codes "descriptor #: flags 0x0004 and 0x0008 have to be set; 0x0010 (interrupt), 0x0040 and bits 16 to 23 may not; 0x0001 (fence) only in lists with barriers; 0x0080 (check) only in compares" else
+    if n == 2 then codes "descriptor #: the operation code is not one of a move, fill, compare, compare pattern, delta or dualcast, or of a checksum if there may be one" else
+    if n == 3 then codes "descriptor #: flags 0x0004 and 0x0008 have to be set; 0x0010 (interrupt), 0x0040 and bits 16 to 23 (of a checksum 19 to 23) may not; 0x0001 (fence) only in lists with barriers; 0x0080 (check) only in compares" else
     if n == 4 then codes "descriptor #: a reserved bit or byte is not zero" else
     if n == 5 then codes "descriptor #: the transfer size is 0" else
     if n == 6 then codes "descriptor #: an address of its data or its record would be 2^64 or more" else
     if n == 7 then codes "descriptor #: the record's address is no multiple of 32" else
     if n == 8 then codes "descriptor #: the low twelve bits of a dualcast's destinations differ" else
-    if n == 9 then codes "descriptor #: two of a dualcast's ranges meet, or a delta's record and its destination" else
+    if n == 9 then codes "descriptor #: two of a dualcast's ranges meet, or a delta's record and its destination, or what a copy with CRC reads and its destination" else
     if n == 10 then codes "descriptor #: a delta's size is no multiple of 8 or above 0x80000, its destination no multiple of 8, or its record's size no multiple of 10" else
     if n == 11 then codes "descriptor #: the expected result of a compare or a compare pattern is above 1" else
     if n == 12 then codes "descriptor #: its PASID or privilege is not the first operation's" else

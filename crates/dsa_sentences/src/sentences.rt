@@ -14,16 +14,16 @@ fn of_lists(number: u64) -> &'static str
     match number {
         1 => "the list's length is no multiple of 64",
         2 =>
-            "descriptor #: the operation code is not one of a move, fill, compare, compare pattern, delta or dualcast",
+            "descriptor #: the operation code is not one of a move, fill, compare, compare pattern, delta or dualcast, or of a checksum if there may be one",
         3 =>
-            "descriptor #: flags 0x0004 and 0x0008 have to be set; 0x0010 (interrupt), 0x0040 and bits 16 to 23 may not; 0x0001 (fence) only in lists with barriers; 0x0080 (check) only in compares",
+            "descriptor #: flags 0x0004 and 0x0008 have to be set; 0x0010 (interrupt), 0x0040 and bits 16 to 23 (of a checksum 19 to 23) may not; 0x0001 (fence) only in lists with barriers; 0x0080 (check) only in compares",
         4 => "descriptor #: a reserved bit or byte is not zero",
         5 => "descriptor #: the transfer size is 0",
         6 => "descriptor #: an address of its data or its record would be 2^64 or more",
         7 => "descriptor #: the record's address is no multiple of 32",
         8 => "descriptor #: the low twelve bits of a dualcast's destinations differ",
         9 =>
-            "descriptor #: two of a dualcast's ranges meet, or a delta's record and its destination",
+            "descriptor #: two of a dualcast's ranges meet, or a delta's record and its destination, or what a copy with CRC reads and its destination",
         10 =>
             "descriptor #: a delta's size is no multiple of 8 or above 0x80000, its destination no multiple of 8, or its record's size no multiple of 10",
         11 => "descriptor #: the expected result of a compare or a compare pattern is above 1",

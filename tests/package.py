@@ -321,11 +321,10 @@ def device():
     tried("the build with archives alone", *words)
     tried("a list that publishes", trace, "--", "./publish_static", "right", printed="published\n")
     tried("a list that publishes", trace, "--", "./publish", "right", printed="published\n", **library)
-    words = ["cc", *STRICT, EXAMPLES / "queue/queue_journal.c", *linking("dsa_queue"), "-o", "queue_journal"]
-    tried("the build of the example of a queue", *words)
-    for how in ("right", "wrong"):
-        words = [trace, "--audit", "--seeds", 5, "--", "./queue_journal", how]
-        tried(f"a journal that is {how}", *words, **library)
+    for name in ("queue_journal", "queue_checksum"):
+        tried(f"the build of {name}", "cc", *STRICT, EXAMPLES / f"queue/{name}.c", *linking("dsa_queue"), "-o", name)
+        for how in ("right", "wrong"):
+            tried(f"{name} {how}", trace, "--audit", "--seeds", 5, "--", f"./{name}", how, **library)
     source = EXAMPLES / "queue/queue_threads.c"
     words = ["cc", *STRICT, "-D_GNU_SOURCE", source, *linking("dsa_queue"), "-o", "queue_threads"]
     tried("the build of the example of threads", *words)

@@ -108,7 +108,7 @@ def rust():
     """The tests of the crate and its page, in software; clippy has nothing to say."""
     if not has_cargo():
         return
-    told("the tests of the queue in Rust", cargo("test", "--test", "queue"), 0, "9 passed")
+    told("the tests of the queue in Rust", cargo("test", "--test", "queue"), 0, "10 passed")
     told("the page of the queue in Rust", cargo("test", "--doc", "queue"), 0, "1 passed")
     if ran("cargo", "clippy", "--version").returncode:
         skip("there is no clippy")

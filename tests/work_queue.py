@@ -28,6 +28,7 @@ INCLUDE = ["-I", ROOT / "bindings/c", "-I", ROOT / "trace"]
 ARCHIVE = ROOT / "crates/dsa_c/out/libdsa_c.a"
 MEMORY = ROOT / "bindings/c/memory.c"
 JOURNAL = ROOT / "examples/queue/queue_journal.c"
+CHECKSUM = ROOT / "examples/queue/queue_checksum.c"
 THREADS = ROOT / "examples/queue/queue_threads.c"
 WRAPPED = ["-Wl,--wrap=calloc,--wrap=mmap,--wrap=madvise"]
 QUEUES = ("/dev/dsa/wq0.0", "/dev/dsa/wq0.1")
@@ -168,6 +169,22 @@ def threads():
             expect(end.stdout == f"{QUEUES[0]}: 400 requests, as in order\n" * SEEDS, f"threads print {end.stdout}")
 
 
+def checksum():
+    """The example publishes exactly a block that is right, and says its checksum, by a bitwise remainder."""
+    expect(len(CHECKSUM.read_text().splitlines()) <= 70, f"{CHECKSUM.name} has more than 70 lines")
+    remainder = 0xFFFFFFFF
+    for i in range(4096):
+        remainder ^= i * 7 & 0xFF
+        for _ in range(8):
+            remainder = remainder >> 1 ^ (0x82F63B78 if remainder & 1 else 0)
+    said = f"checksum {remainder ^ 0xFFFFFFFF:08x}, "
+    failed = CHECKED.format(4, "the first difference is at byte 0")
+    for how, lines in (("right", f"{said}published\n"), ("wrong", f"{failed}{said}not published\n")):
+        end = traced("--seeds", 4 * SEEDS, "--order", "all", "--", client("queue_checksum"), how)
+        told(f"the checksum: {how}", end, 0)
+        expect(end.stdout == lines * (4 * SEEDS), f"the checksum {how} prints {end.stdout}")
+
+
 def journal():
     """The example publishes exactly what is right, under many seeds, and needs at most 70 lines."""
     expect(len(JOURNAL.read_text().splitlines()) <= 70, f"{JOURNAL.name} has more than 70 lines")
@@ -208,6 +225,9 @@ SAID = {
     "both": CHECKED.format(1, "the first difference is at byte 0"),
     "failing": DELTA.format("do not increase (status 7)") + DELTA.format("are out of range (status 8)") + DONE
     + CHECKED.format(0, "the bytes are equal"),
+    "checksums": 3 * DONE + CHECKED.format(1, "the first difference is at byte 0") + KEPT.format(3)
+    + "refused 2: descriptor 0: the operation code is not one of a move, fill, compare, compare "
+    "pattern, delta or dualcast, or of a checksum if there may be one\n",
     "refused": "the list has not been run since it was changed; run it\nthe list is empty; add an operation\n"
     "refused 5: descriptor 1: the transfer size is 0\n"
     "operation 0 has 4294967296 bytes, and one may have at most 4294967295; use several\n"
@@ -509,9 +529,10 @@ def main(words):
     told("the build of kernel", compiled("kernel", "-Wl,--wrap=mmap,--wrap=write"), 0)
     told("the build of records", compiled("records"), 0)
     told("the build of threads", compiled(THREADS.stem, source=THREADS), 0)
-    told("the build of the journal", compiled(JOURNAL.stem, source=JOURNAL), 0)
-    parts = [built, lists, several, written, placed, threads, journal, ends, opening, stopped, allocations, records]
-    parts += [software, or_software, speed, wrong]
+    for example in (JOURNAL, CHECKSUM):
+        told(f"the build of {example.name}", compiled(example.stem, source=example), 0)
+    parts = [built, lists, several, written, placed, threads, checksum, journal, ends, opening, stopped, allocations]
+    parts += [records, software, or_software, speed, wrong]
     for part in named(parts, words):
         part()
 

@@ -50,8 +50,10 @@ class _Options(ctypes.Structure):
 
 
 class _Result(ctypes.Structure):
-    _fields_ = [(name, ctypes.c_uint8) for name in ("status", "is_write", "result")] + [
-        (name, ctypes.c_uint64) for name in ("offset", "fault")
+    _fields_ = [
+        *((name, ctypes.c_uint8) for name in ("status", "is_write", "result", "has_checksum")),
+        ("checksum", ctypes.c_uint32),
+        *((name, ctypes.c_uint64) for name in ("offset", "fault")),
     ]
 
 
@@ -119,6 +121,8 @@ class Result(NamedTuple):
     """Of a compare that finds a difference: the offset of the first one."""
     fault: Optional[Fault]
     """Of a page fault (status 3 or 4)."""
+    checksum: Optional[int] = None
+    """Of a checksum that has succeeded."""
 
 
 class QueueError(Exception):
@@ -325,7 +329,8 @@ class _Operations:
             return Result(0, None, None)
         said = _library.dsa_list_result(self.at, operation)
         fault = Fault(said.fault, bool(said.is_write)) if said.status in (3, 4) else None
-        return Result(said.status, said.offset if said.result else None, fault)
+        checksum = said.checksum if said.has_checksum else None
+        return Result(said.status, said.offset if said.result else None, fault, checksum)
 
 
 class List:
@@ -399,6 +404,17 @@ class List:
         """Moves bytes to two places, whose addresses have equal low 12 bits."""
         buffers = {"source": source, "first": first, "second": second}
         return self._add(dsa_planner.dualcast, buffers, ["first", "second"])
+
+    def crc(self, source: Any, seed: int = 0) -> int:
+        """The checksum (CRC-32C) of bytes, `Result.checksum`: as one checksum of what `seed` is that of and of them; 0
+        for that of them alone. A list with a checksum is planned as it is, so none of its operations may be longer than
+        the queue's greatest transfer; it is not prepared, nor run on a queue with lists in flight, and nothing more of
+        it is submitted after a failed check or an absent page."""
+        return self._add(dsa_planner.crc, {"source": source}, seed=seed)
+
+    def copy_crc(self, source: Any, target: Any, seed: int = 0) -> int:
+        """The same, and the bytes are moved to `target`, which may not meet them."""
+        return self._add(dsa_planner.copy_crc, {"source": source, "target": target}, ["target"], seed=seed)
 
     def apply_delta(self, delta: Any, target: Any) -> int:
         """Applies a delta record, which has a size of its own, to a target."""

@@ -17,6 +17,9 @@
  * Checks:    if a check fails, what was added before the next barrier is done, and nothing after it.
  * Faults:    a page that is absent is made present (Linux 5.14 or later), and what is left of the list is done. After
  *            any other failure nothing more is submitted; of what is, all before the next barrier may be done.
+ * Checksums: a list with one (dsa_list_crc, dsa_list_copy_crc) is planned as it is, so none of its operations may be
+ *            longer than the queue's greatest transfer; it is not prepared, nor run on a queue with the flag
+ *            DSA_QUEUE_IN_FLIGHT. Nothing more of it is submitted after a failed check or an absent page, either.
  * Memory:    dsa_queue_open takes all memory of the layer; only planning allocates later, and frees it again, and
  *            dsa_list_prepare, whose memory is kept with the list until the queue is closed.
  *            Completion records and staging areas are the queue's. Buffers have to stay until the list has ended, and
@@ -154,11 +157,13 @@ void dsa_list_set_tag(struct dsa_list *list, void *tag);
 void *dsa_list_tag(const struct dsa_list *list);
 
 struct dsa_result {
-    uint8_t status;   /* as in linux/idxd.h, without bit 7; 0: not begun, or not known */
-    uint8_t is_write; /* of a page fault: it was a write */
-    uint8_t result;   /* of a compare: 0 if the bytes are equal, else 1 */
-    uint64_t offset;  /* of a compare with result 1: the offset of the first difference */
-    uint64_t fault;   /* of a page fault: the address */
+    uint8_t status;       /* as in linux/idxd.h, without bit 7; 0: not begun, or not known */
+    uint8_t is_write;     /* of a page fault: it was a write */
+    uint8_t result;       /* of a compare: 0 if the bytes are equal, else 1 */
+    uint8_t has_checksum; /* 1 of dsa_list_crc and dsa_list_copy_crc with status 1, else 0 */
+    uint32_t checksum;    /* and the checksum then */
+    uint64_t offset;      /* of a compare with result 1: the offset of the first difference */
+    uint64_t fault;       /* of a page fault: the address */
 };
 /* The result of an operation, by its number, once the list has ended. */
 struct dsa_result dsa_list_result(const struct dsa_list *list, int operation);
@@ -212,6 +217,27 @@ static inline int dsa_list_apply_delta(struct dsa_list *list, const void *delta,
     dsa_put_apply_delta(d, (uintptr_t)delta, delta_size, (uintptr_t)target, size, 0);
     return dsa_list_add(list, d, size);
 }
+
+/* The checksum (CRC-32C) of a range, which dsa_list_result has: as one checksum of what `seed` is that of and of the
+ * range; 0 for that of the range alone. */
+static inline int dsa_list_crc(struct dsa_list *list, const void *source, size_t size, uint32_t seed)
+{
+    uint8_t d[64];
+    dsa_put_crc(d, (uintptr_t)source, size, seed, 0);
+    return dsa_list_add(list, d, size);
+}
+
+/* The same, and the range is moved to target, which may not meet it. */
+static inline int dsa_list_copy_crc(struct dsa_list *list, const void *source, void *target, size_t size, uint32_t seed)
+{
+    uint8_t d[64];
+    dsa_put_copy_crc(d, (uintptr_t)source, (uintptr_t)target, size, seed, 0);
+    return dsa_list_add(list, d, size);
+}
+
+/* The four bytes at which the checksum of an operation of the list will be, the lowest first, for operations that read
+ * it: a compare with a checksum that was kept, or a move that keeps it. Without such an operation NULL. */
+const void *dsa_list_checksum(const struct dsa_list *list, int operation);
 
 /* The two ranges have to be equal, else the list fails and nothing that is added later is begun: a compare that checks
  * its result, and a barrier after it. */

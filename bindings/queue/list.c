@@ -7,15 +7,19 @@ uint32_t operands_of(const uint8_t *d, struct operand operands[3])
     static const struct { uint8_t opcode, count, at[3]; } all[] = {
         {OPCODE_MOVE, 2, {16, 24, 0}}, {OPCODE_FILL, 1, {24, 0, 0}}, {OPCODE_COMPARE, 2, {16, 24, 0}},
         {OPCODE_COMPARE_PATTERN, 1, {16, 0, 0}}, {OPCODE_DELTA, 2, {16, 24, 0}}, {OPCODE_DUALCAST, 3, {16, 24, 40}},
+        {OPCODE_CRC, 1, {16, SEED_AT, 0}}, {OPCODE_COPY_CRC, 2, {16, 24, SEED_AT}},
     };
     size_t i = 0;
     while (i < sizeof all / sizeof *all && all[i].opcode != d[7])
         i++;
-    const uint32_t count = i < sizeof all / sizeof *all ? all[i].count : 0;
+    uint32_t count = i < sizeof all / sizeof *all ? all[i].count : 0;
+    if (is_checksum(d) && d[6] & SEED_IN_MEMORY)
+        count++;
     for (uint32_t k = 0; k < count; k++) {
         const bool is_delta = d[7] == OPCODE_DELTA && k == 0; /* it has a size of its own */
         const uint8_t at = all[i].at[k];
-        operands[k] = (struct operand){at, number_at(d + at, 8), number_at(d + (is_delta ? 40 : 32), 4)};
+        const uint64_t len = at == SEED_AT ? 4 : number_at(d + (is_delta ? 40 : 32), 4);
+        operands[k] = (struct operand){at, number_at(d + at, 8), len};
     }
     return count;
 }
@@ -87,6 +91,19 @@ void list_look(struct dsa_list *list)
     list->at_misplaced = (int)i;
 }
 
+bool list_has_checksum(const struct dsa_list *list)
+{
+    uint32_t i = 0;
+    while (i < list->operations && !is_checksum(list->list + ENTRY * i))
+        i++;
+    return i < list->operations;
+}
+
+bool list_keeps_faults(const struct dsa_list *list)
+{
+    return list->queue->flags & DSA_QUEUE_KEEP_FAULTS || list_has_checksum(list);
+}
+
 /// Notes how an operation was placed: a wrong place of it is mended by a right one, and a wrong number, after which
 /// nobody knows which operations are where they should be, by places of all.
 static void note_place(struct dsa_list *list, int operation)
@@ -123,6 +140,13 @@ int dsa_list_place(struct dsa_list *list, int operation, const void *first, cons
     if (list->misplaced)
         list->reason = list->misplaced;
     return is_misplaced(list, (uint32_t)operation) ? -1 : operation;
+}
+
+const void *dsa_list_checksum(const struct dsa_list *list, int operation)
+{
+    if (operation < 0 || (uint32_t)operation >= list->operations || !is_checksum(list->list + ENTRY * operation))
+        return NULL;
+    return list->records + RECORD * (size_t)list->first[operation] + CHECKSUM_AT;
 }
 
 void dsa_list_barrier(struct dsa_list *list)

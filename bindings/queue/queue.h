@@ -14,8 +14,10 @@
 enum { PAGE = 4096, MOST_LISTS = 64, MOST_PORTS = 16, NAME_ROOM = 256, NAMES_ROOM = 1024, RECORD = 32, ENTRY = 64 };
 enum { STATUS_SUCCESS = 1, STATUS_CHECK = 2, STATUS_FAULT = 3, STATUS_FAULT_BLOCKED = 4 };
 enum { STATUS_BATCH = 5, STATUS_BATCH_FAULT = 6, IS_WRITE = 0x80 };
+/* Of a checksum: where its seed is, the bit of byte 6 that it is in memory, and where the record has the checksum. */
+enum { SEED_AT = 48, SEED_IN_MEMORY = 0x01, CHECKSUM_AT = 16 };
 enum { OPCODE_BATCH = 1, OPCODE_MOVE = 3, OPCODE_FILL = 4, OPCODE_COMPARE = 5, OPCODE_COMPARE_PATTERN = 6,
-       OPCODE_DELTA = 8, OPCODE_DUALCAST = 9 };
+       OPCODE_DELTA = 8, OPCODE_DUALCAST = 9, OPCODE_CRC = 0x10, OPCODE_COPY_CRC = 0x11 };
 
 /* Why a list was refused, or has failed; the sentences are in why.c. */
 enum reason {
@@ -128,6 +130,8 @@ static inline bool ranges_meet(uint64_t one, uint64_t other, uint64_t size)
     return one - other < size || other - one < size;
 }
 
+static inline bool is_checksum(const uint8_t *d) { return d[7] == OPCODE_CRC || d[7] == OPCODE_COPY_CRC; }
+
 /* ---- list.c ---- */
 struct operand { uint8_t at; uint64_t first, len; };
 /* What an operation reads and writes: where its descriptor has the address, the address and the bytes. They are in the
@@ -135,6 +139,10 @@ struct operand { uint8_t at; uint64_t first, len; };
 uint32_t operands_of(const uint8_t *d, struct operand operands[3]);
 /* Looks where all operations are now, and forgets that one was placed that the list has not. */
 void list_look(struct dsa_list *list);
+/* Whether an operation makes a checksum: what is left of such a list after a failure can't be planned. */
+bool list_has_checksum(const struct dsa_list *list);
+/* Whether page faults of the list stay, as the queue's options or a checksum have it. */
+bool list_keeps_faults(const struct dsa_list *list);
 
 /* ---- driver.c ---- */
 enum { STATE_ROOM = 64 };

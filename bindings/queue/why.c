@@ -35,7 +35,7 @@ static int weight_of(const struct dsa_list *list, const uint8_t *record)
 
 struct dsa_result dsa_list_result(const struct dsa_list *list, int operation)
 {
-    struct dsa_result result = {0, 0, 0, 0, 0};
+    struct dsa_result result = {0};
     if (operation < 0 || (uint32_t)operation >= list->operations || list->end == DSA_LIST_REFUSED ||
         list->end == DSA_LIST_RUNNING || !room_is_own(list->queue))
         return result;
@@ -53,6 +53,10 @@ struct dsa_result dsa_list_result(const struct dsa_list *list, int operation)
         }
     }
     result.status = status_of(said);
+    if (is_checksum(list->list + ENTRY * operation) && result.status == STATUS_SUCCESS) {
+        result.has_checksum = 1;
+        result.checksum = (uint32_t)number_at(said + CHECKSUM_AT, 4);
+    }
     if (is_page_fault(result.status)) {
         result.is_write = said[0] & IS_WRITE ? 1 : 0;
         result.fault = number_at(said + 8, 8);
@@ -97,7 +101,7 @@ static void why_failed(const struct dsa_list *list, char why[DSA_WHY_ROOM])
     else if (r.status == STATUS_CHECK)
         why_not(why, "operation %d: the check failed, the bytes are equal; nothing after the next barrier was begun",
                 failed);
-    else if (is_page_fault(r.status) && list->queue->flags & DSA_QUEUE_KEEP_FAULTS)
+    else if (is_page_fault(r.status) && list_keeps_faults(list))
         why_not(why, "operation %d: page fault at %#llx (%s, status %#x); make the page present, restore what "
                 "the list has changed, and run it again",
                 failed, at, r.is_write ? "write" : "read", r.status);

@@ -10,6 +10,7 @@ import threading
 import time
 
 import dsa_planner
+from dsa_planner import copy_crc, crc
 from dsa_queue import Failed, Fault, LeftOut, Lost, Queue, QueueError, Refused, Result
 
 SUCCESS = Result(1, None, None)
@@ -75,6 +76,27 @@ def operations():
         places.release()
         raised(BufferError, "exported pointers", wide.close)
     wide.close()
+
+
+def checksums():
+    """Those of "123456789", in one and in two parts, with a copy; and a seed that is read."""
+    seeded = bytes(4) + b"\x0c\0\1\x11" + b"\0\x80".ljust(8, b"\0") + b"\0\x10".ljust(8, b"\0")
+    seeded += b"\0\x20".ljust(8, b"\0") + b"\x40".ljust(16, b"\0") + b"\x30\x80".ljust(16, b"\0")
+    expect(copy_crc(0x1000, 0x2000, 64, 0x8000, seed_at=0x8030) == seeded, "a checksum that goes on from memory")
+    raised(ValueError, "a seed is given or read", crc, 0x1000, 64, 0x8000, seed=1, seed_at=0x8030)
+    text, copied = b"123456789", bytearray(4)
+    with opened() as queue, queue.list() as it:
+        it.crc(text)
+        it.copy_crc(text[:4], copied)
+        it.run()
+        whole, begun = it.result(0).checksum, it.result(1).checksum
+        expect(whole == 0xE3069283 and copied == b"1234", f"a checksum {whole}, and a copy {copied}")
+        it.clear()
+        expect(it.result(0).checksum is None, "no checksum of a list that was cleared")
+        it.crc(text[4:], seed=begun)
+        it.move(text[:4], copied)
+        it.run()
+        expect((it.result(0).checksum, it.result(1).checksum) == (0xE3069283, None), "a checksum from another on")
 
 
 def checks():
@@ -212,7 +234,9 @@ def polled():
         it = lists[0] = None
         gc.collect()
         lists[2].run()  # moves all on
-        expect(queue.poll() is lists[1], "a list that has ended is polled, though one before it is garbage")
+        while (found := queue.poll()) is None:
+            pass
+        expect(found is lists[1], "a list that has ended is polled, though one before it is garbage")
 
 
 def threads():
@@ -284,7 +308,7 @@ def lost():
 
 
 if __name__ == "__main__":
-    cases = [operations, checks, refusals, addresses, in_flight, polled, threads, faults]
+    cases = [operations, checksums, checks, refusals, addresses, in_flight, polled, threads, faults]
     for case in cases if sys.argv[1] == "lists" else [lost]:
         case()
     print(f"{wrong} wrong")

@@ -175,6 +175,44 @@ static int failing(void)
     return right;
 }
 
+/* Checksums, of vectors of RFC 3720 and of "123456789": in one, after a copy of its beginning, and of bytes elsewhere.
+ * A list with one does not go on after a failed check or an absent page. A queue with lists in flight has none. */
+static int checksums(void)
+{
+    const struct dsa_queue_options o = {.flags = DSA_QUEUE_IN_FLIGHT};
+    struct dsa_queue *queue = opened(NULL), *tracked = opened(&o);
+    struct dsa_list *list = dsa_list_get(queue), *other = dsa_list_get(tracked);
+    memcpy(a, "123456789", 9);
+    memset(c, 0xff, 32);
+    dsa_list_crc(list, a, 9, 0);
+    dsa_list_copy_crc(list, a, b, 4, 0);
+    int right = !dsa_list_result(list, 0).has_checksum && ends(list, DSA_LIST_DONE) && memcmp(b, "1234", 5) == 0;
+    const struct dsa_result whole = dsa_list_result(list, 0), begun = dsa_list_result(list, 1);
+    right = right && whole.has_checksum && whole.checksum == 0xe3069283 && begun.has_checksum;
+    dsa_list_clear(list);
+    dsa_list_crc(list, a + 4, 5, begun.checksum);
+    dsa_list_copy_crc(list, a + PAGE, b, 32, 0);
+    dsa_list_move(list, a, b + PAGE, 9);
+    right = ends(list, DSA_LIST_DONE) && right && dsa_list_result(list, 0).checksum == 0xe3069283;
+    right = right && dsa_list_result(list, 1).checksum == 0x8a9136aa && !dsa_list_result(list, 2).has_checksum;
+    dsa_list_place(list, 1, c, b + 64, NULL);
+    right = ends(list, DSA_LIST_DONE) && right && dsa_list_result(list, 1).checksum == 0x62a8ab43 && b[64] == 0xff;
+    dsa_list_clear(list);
+    dsa_list_crc(list, a, 9, 0);
+    dsa_list_check(list, dsa_list_checksum(list, 0), c, 4); /* it is not ff.. */
+    dsa_list_move(list, a, b + 128, 9);
+    right = ends(list, DSA_LIST_FAILED) && right && dsa_list_failed(list) == 1 && b[128] == 0;
+    right = right && dsa_list_result(list, 0).checksum == 0xe3069283 && !dsa_list_checksum(list, 1);
+    dsa_list_clear(list);
+    dsa_list_copy_crc(list, a, mapped(PROT_NONE), 9, 0);
+    right = ends(list, DSA_LIST_FAILED) && right && !dsa_list_result(list, 0).has_checksum;
+    dsa_list_crc(other, a, 9, 0);
+    right = ends(other, DSA_LIST_REFUSED) && right && !dsa_list_result(other, 0).has_checksum;
+    dsa_queue_close(tracked);
+    dsa_queue_close(queue);
+    return right;
+}
+
 /* Lists that are refused. */
 static int refused(void)
 {
@@ -418,7 +456,7 @@ int main(int argc, char **argv)
 {
     static const struct { const char *name; int (*run)(void); } cases[] = {
         {"open", open_it}, {"or_software", or_software}, {"options", options}, {"absent", absent}, {"kept", kept},
-        {"both", both}, {"failing", failing}, {"refused", refused}, {"misplaced", misplaced},
+        {"both", both}, {"failing", failing}, {"checksums", checksums}, {"refused", refused}, {"misplaced", misplaced},
         {"overlapped", overlapped}, {"again", again}, {"forked", forked}, {"polled", polled}, {"threads", threads},
         {"limit", limit}, {"dropped", dropped},
     };

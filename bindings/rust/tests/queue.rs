@@ -54,6 +54,7 @@ fn refused(of: Result<usize, Error>) -> String {
 const SUCCESS: Outcome = Outcome {
     status: 1,
     difference: None,
+    checksum: None,
     fault: None,
 };
 
@@ -104,6 +105,22 @@ fn operations() {
     list[a][8] = 77;
     list.run().unwrap(); // again, with other bytes
     assert_eq!(list[b][0], 77);
+}
+
+#[test]
+fn checksums() {
+    let mut list = opened(false, 1).list().unwrap();
+    let (text, copied) = (list.own(b"123456789".to_vec()), list.own(vec![0; 4]));
+    assert_eq!(list.crc(text, 0), Ok(0));
+    assert_eq!(list.copy_crc(text.part(0..4), copied, 0), Ok(1));
+    list.run().unwrap();
+    assert_eq!(list.outcome(0).checksum, Some(0xe306_9283));
+    assert_eq!(list[copied], *b"1234");
+    let begun = list.outcome(1).checksum.unwrap();
+    list.clear();
+    list.crc(text.part(4..9), begun).unwrap(); // one checksum of both parts
+    list.run().unwrap();
+    assert_eq!(list.outcome(0).checksum, Some(0xe306_9283));
 }
 
 #[test]

@@ -197,6 +197,7 @@ impl List {
         Outcome {
             status: said.status,
             difference: (said.result == 1).then_some(said.offset),
+            checksum: (said.has_checksum != 0).then_some(said.checksum),
             fault: matches!(said.status, 3 | 4).then_some(fault),
         }
     }

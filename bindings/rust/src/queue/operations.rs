@@ -105,6 +105,34 @@ impl List {
         })
     }
 
+    /// The checksum (CRC-32C) of a part, [`Outcome::checksum`]: as one checksum of what `seed` is that of and of the
+    /// part; 0 for that of the part alone. A list with a checksum is planned as it is, so none of its operations may be
+    /// longer than the queue's greatest transfer; it is not prepared, nor run on a queue with lists in flight, and
+    /// nothing more of it is submitted after a failed check or an absent page.
+    ///
+    /// # Errors
+    /// As of [`List::memory_move`].
+    pub fn crc(&mut self, source: impl Into<Part>, seed: u32) -> Result<usize, Error> {
+        self.add_parts([source.into()], |[source], size| {
+            Descriptor::crc(source, size, seed, 0)
+        })
+    }
+
+    /// The same, and the part is moved to `target`, which may not meet it.
+    ///
+    /// # Errors
+    /// As of [`List::memory_move`].
+    pub fn copy_crc(
+        &mut self,
+        source: impl Into<Part>,
+        target: impl Into<Part>,
+        seed: u32,
+    ) -> Result<usize, Error> {
+        self.add_parts([source.into(), target.into()], |[source, target], size| {
+            Descriptor::copy_crc(source, target, size, seed, 0)
+        })
+    }
+
     /// Applies a delta record, which has a size of its own, to a part.
     ///
     /// # Errors

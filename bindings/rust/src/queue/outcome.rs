@@ -46,6 +46,8 @@ pub struct Outcome {
     pub status: u8,
     /// Of a compare that finds a difference: the offset of the first one.
     pub difference: Option<u64>,
+    /// Of a checksum that has succeeded: the checksum.
+    pub checksum: Option<u32>,
     /// Of a page fault (status 3 or 4).
     pub fault: Option<Fault>,
 }

@@ -44,6 +44,8 @@ pub struct Outcome {
     pub status: u8,
     pub is_write: u8,
     pub result: u8,
+    pub has_checksum: u8,
+    pub checksum: u32,
     pub offset: u64,
     pub fault: u64,
 }

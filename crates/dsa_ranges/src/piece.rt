@@ -9,27 +9,20 @@ use crate::conflict::touched;
 use crate::span::Touched;
 use dsa_descriptor::{Descriptor, Entry};
 
-/// An entry of a list that a plan may have: how long it is, and what it reads and writes.
-pub trait Piece: Entry {
-    /// Its transfer size.
-    ghost size: { Self → ℕ };
-
+/// Something that reads and writes memory.
+pub trait Touching {
     /// What it reads.
     ghost reads: { Self → List Span };
 
     /// What it writes, its completion record included.
     ghost writes: { Self → List Span };
 
-    /// The pieces at two places of a list conflict.
+    /// Those at two places of a list conflict.
     ghost conflict: { List Self → ℕ → ℕ → Type 0 };
 
-    /// Two pieces conflict exactly if one writes an address that the other reads or writes.
-    fn are_pieces()
+    /// Two conflict exactly if one writes an address that the other reads or writes.
+    fn conflict_as_touched()
         ensures { ConflictAsTouched reads writes conflict };
-
-    /// Its transfer size in bytes.
-    fn transfer_size(&self) -> u32
-        ensures { result ≡ size self.now };
 
     /// What it reads and writes.
     fn touched_spans(&self) -> Touched
@@ -37,24 +30,36 @@ pub trait Piece: Entry {
         ensures writes { result.writes.items ≡ writes self.now };
 }
 
-impl Piece for Descriptor {
-    ghost size = { λ d. d.size };
+/// An entry of a list that a plan may have: what it reads and writes, and how long it is.
+pub trait Piece: Entry + Touching {
+    /// Its transfer size.
+    ghost size: { Self → ℕ };
 
+    /// Its transfer size in bytes.
+    fn transfer_size(&self) -> u32
+        ensures { result ≡ size self.now };
+}
+
+impl Touching for Descriptor {
     ghost reads = { reads_of };
 
     ghost writes = { writes_of };
 
     ghost conflict = { DescriptorConflictAt };
 
-    fn are_pieces() {}
-
-    #[inline(always)]
-    fn transfer_size(&self) -> u32 {
-        self.size
-    }
+    fn conflict_as_touched() {}
 
     #[inline(always)]
     fn touched_spans(&self) -> Touched {
         touched(self)
+    }
+}
+
+impl Piece for Descriptor {
+    ghost size = { λ d. d.size };
+
+    #[inline(always)]
+    fn transfer_size(&self) -> u32 {
+        self.size
     }
 }

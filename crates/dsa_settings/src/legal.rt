@@ -137,7 +137,7 @@ fn unfenced_before<P: Piece>(
         (HasNoUnfenced (P.conflict pieces.now) start fences.now at)
         (λ i. IsLastUnfenced (P.conflict pieces.now) start fences.now i at) }
 {
-    P::are_pieces();
+    P::conflict_as_touched();
     let later = pieces[at].touched_spans();
     let mut i = at;
     while i > start {

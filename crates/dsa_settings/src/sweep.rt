@@ -204,7 +204,7 @@ pub(crate) fn is_seen_fenced<P: Piece>(
     requires few { length pieces.now ≤ most_pieces }
     ensures { IsTrue result → IsFencedWithin (P.conflict pieces.now) start group.now }
 {
-    P::are_pieces();
+    P::conflict_as_touched();
     accesses.clear();
     for at in start..start + group.len() {
         if group.fences()[at - start] {

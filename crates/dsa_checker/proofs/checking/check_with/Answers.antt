@@ -13,7 +13,7 @@ use Rattle.dsa_checker.proofs.checking.check_with.Goals.{In-Some-first_bad_step,
 
 pub first_bad_step-requires-clause-forward : goal.first_bad_step-requires-clause-forward
 first_bad_step-requires-clause-forward g c =
-    let C = WithBarriers (g.P.Piece.conflict c.args.pieces.now) c.args.barriers.now in
+    let C = WithBarriers (g.P.Touching.conflict c.args.pieces.now) c.args.barriers.now in
     let n = length c.args.pieces.now in
     let cert = contents c.args.certificate.now in
     let pairs_len : length cert.pairs ≡ n = omega (arith, ap length c.deref.ensures.value, c.deref.ensures.len, c.len-2.ensures, c.if-len-pieces-2.false) in
@@ -22,11 +22,11 @@ first_bad_step-requires-clause-forward g c =
 
 -- the fault where a pair does not hold
 bad_pair : (g : Over) (c : In-Some g)
-    → IsFirstCheckFault (WithBarriers (g.P.Piece.conflict c.args.pieces.now) c.args.barriers.now)
+    → IsFirstCheckFault (WithBarriers (g.P.Touching.conflict c.args.pieces.now) c.args.barriers.now)
     c.args.settings.now.greatest_batch (tariff_of c.args.settings.now) (version_of c.args.settings.now)
     (length c.args.pieces.now) c.args.plan.now (contents c.args.certificate.now) (Pair c.in-Some.piece)
 bad_pair g c =
-    let C = WithBarriers (g.P.Piece.conflict c.args.pieces.now) c.args.barriers.now in
+    let C = WithBarriers (g.P.Touching.conflict c.args.pieces.now) c.args.barriers.now in
     let greatest_batch = c.args.settings.now.greatest_batch in
     let tariff = tariff_of c.args.settings.now in
     let n = length c.args.pieces.now in
@@ -43,24 +43,24 @@ bad_pair g c =
 
 pub returns-in-Some-clause-fault : goal.returns-in-Some-clause-fault
 returns-in-Some-clause-fault g c =
-    fault_answer (WithBarriers (g.P.Piece.conflict c.args.pieces.now) c.args.barriers.now)
+    fault_answer (WithBarriers (g.P.Touching.conflict c.args.pieces.now) c.args.barriers.now)
     c.args.settings.now.greatest_batch (tariff_of c.args.settings.now) (version_of c.args.settings.now)
     (length c.args.pieces.now) c.args.plan.now (contents c.args.certificate.now) (Pair c.in-Some.piece) (bad_pair g c)
 
 pub returns-in-Some-clause-certificate_good : goal.returns-in-Some-clause-certificate_good
 returns-in-Some-clause-certificate_good g c =
-    fault_no_yes (WithBarriers (g.P.Piece.conflict c.args.pieces.now) c.args.barriers.now)
+    fault_no_yes (WithBarriers (g.P.Touching.conflict c.args.pieces.now) c.args.barriers.now)
     c.args.settings.now.greatest_batch (tariff_of c.args.settings.now) (version_of c.args.settings.now)
     (length c.args.pieces.now) c.args.plan.now (contents c.args.certificate.now) (Pair c.in-Some.piece) (bad_pair g c)
 
 -- the fault where a step does not hold
 bad_step : (g : Over) (c : In-Some-first_bad_step g)
-    → IsFirstCheckFault (WithBarriers (g.P.Piece.conflict c.args.pieces.now) c.args.barriers.now)
+    → IsFirstCheckFault (WithBarriers (g.P.Touching.conflict c.args.pieces.now) c.args.barriers.now)
     c.args.settings.now.greatest_batch (tariff_of c.args.settings.now) (version_of c.args.settings.now)
     (length c.args.pieces.now) c.args.plan.now (contents c.args.certificate.now)
     (Price c.in-Some-first_bad_step.start c.in-Some-first_bad_step.end)
 bad_step g c =
-    let C = WithBarriers (g.P.Piece.conflict c.args.pieces.now) c.args.barriers.now in
+    let C = WithBarriers (g.P.Touching.conflict c.args.pieces.now) c.args.barriers.now in
     let greatest_batch = c.args.settings.now.greatest_batch in
     let tariff = tariff_of c.args.settings.now in
     let n = length c.args.pieces.now in
@@ -82,25 +82,25 @@ bad_step g c =
 
 pub returns-in-Some-first_bad_step-clause-certificate_good : goal.returns-in-Some-first_bad_step-clause-certificate_good
 returns-in-Some-first_bad_step-clause-certificate_good g c =
-    fault_no_yes (WithBarriers (g.P.Piece.conflict c.args.pieces.now) c.args.barriers.now)
+    fault_no_yes (WithBarriers (g.P.Touching.conflict c.args.pieces.now) c.args.barriers.now)
     c.args.settings.now.greatest_batch (tariff_of c.args.settings.now) (version_of c.args.settings.now)
     (length c.args.pieces.now) c.args.plan.now (contents c.args.certificate.now)
     (Price c.in-Some-first_bad_step.start c.in-Some-first_bad_step.end) (bad_step g c)
 
 pub returns-in-Some-first_bad_step-clause-fault : goal.returns-in-Some-first_bad_step-clause-fault
 returns-in-Some-first_bad_step-clause-fault g c =
-    fault_answer (WithBarriers (g.P.Piece.conflict c.args.pieces.now) c.args.barriers.now)
+    fault_answer (WithBarriers (g.P.Touching.conflict c.args.pieces.now) c.args.barriers.now)
     c.args.settings.now.greatest_batch (tariff_of c.args.settings.now) (version_of c.args.settings.now)
     (length c.args.pieces.now) c.args.plan.now (contents c.args.certificate.now)
     (Price c.in-Some-first_bad_step.start c.in-Some-first_bad_step.end) (bad_step g c)
 
 -- the answer where all holds
 answered : (g : Over) (c : Else-index-total g)
-    → IsYes (WithBarriers (g.P.Piece.conflict c.args.pieces.now) c.args.barriers.now)
+    → IsYes (WithBarriers (g.P.Touching.conflict c.args.pieces.now) c.args.barriers.now)
     c.args.settings.now.greatest_batch (tariff_of c.args.settings.now) (version_of c.args.settings.now)
     (length c.args.pieces.now) c.args.plan.now (contents c.args.certificate.now) c.cost-total.result
 answered g c =
-    let C = WithBarriers (g.P.Piece.conflict c.args.pieces.now) c.args.barriers.now in
+    let C = WithBarriers (g.P.Touching.conflict c.args.pieces.now) c.args.barriers.now in
     let greatest_batch = c.args.settings.now.greatest_batch in
     let tariff = tariff_of c.args.settings.now in
     let n = length c.args.pieces.now in
@@ -122,7 +122,7 @@ answered g c =
 
 pub returns-clause-certificate_good : goal.returns-clause-certificate_good
 returns-clause-certificate_good g c =
-    yes_answer (WithBarriers (g.P.Piece.conflict c.args.pieces.now) c.args.barriers.now)
+    yes_answer (WithBarriers (g.P.Touching.conflict c.args.pieces.now) c.args.barriers.now)
     c.args.settings.now.greatest_batch (tariff_of c.args.settings.now) (version_of c.args.settings.now)
     (length c.args.pieces.now) c.args.plan.now (contents c.args.certificate.now) c.cost-total.result (answered g c)
 
@@ -130,19 +130,19 @@ pub returns-clause-least : goal.returns-clause-least
 returns-clause-least g c = λ _.
     let cert = contents c.args.certificate.now in
     let answer = answered g c in
-    yes_means_least (WithBarriers (g.P.Piece.conflict c.args.pieces.now) c.args.barriers.now)
+    yes_means_least (WithBarriers (g.P.Touching.conflict c.args.pieces.now) c.args.barriers.now)
     c.args.settings.now.greatest_batch (tariff_of c.args.settings.now) (length c.args.pieces.now) c.args.plan.now
     cert.prices cert.pairs c.cost-total.result answer.0 answer.2 answer.3
 
 pub returns-clause-fault : goal.returns-clause-fault
 returns-clause-fault g c =
-    yes_no_fault (WithBarriers (g.P.Piece.conflict c.args.pieces.now) c.args.barriers.now)
+    yes_no_fault (WithBarriers (g.P.Touching.conflict c.args.pieces.now) c.args.barriers.now)
     c.args.settings.now.greatest_batch (tariff_of c.args.settings.now) (version_of c.args.settings.now)
     (length c.args.pieces.now) c.args.plan.now (contents c.args.certificate.now) c.cost-total.result (answered g c)
 
 pub returns-then-index-ne0-clause-fault : goal.returns-then-index-ne0-clause-fault
 returns-then-index-ne0-clause-fault g c =
-    let C = WithBarriers (g.P.Piece.conflict c.args.pieces.now) c.args.barriers.now in
+    let C = WithBarriers (g.P.Touching.conflict c.args.pieces.now) c.args.barriers.now in
     let greatest_batch = c.args.settings.now.greatest_batch in
     let tariff = tariff_of c.args.settings.now in
     let n = length c.args.pieces.now in
@@ -160,7 +160,7 @@ returns-then-index-ne0-clause-fault g c =
 
 pub returns-then-index-total-clause-fault : goal.returns-then-index-total-clause-fault
 returns-then-index-total-clause-fault g c =
-    let C = WithBarriers (g.P.Piece.conflict c.args.pieces.now) c.args.barriers.now in
+    let C = WithBarriers (g.P.Touching.conflict c.args.pieces.now) c.args.barriers.now in
     let greatest_batch = c.args.settings.now.greatest_batch in
     let tariff = tariff_of c.args.settings.now in
     let n = length c.args.pieces.now in

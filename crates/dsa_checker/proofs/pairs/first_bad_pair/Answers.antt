@@ -5,7 +5,7 @@ use Rattle.dsa_checker.proofs.pairs.first_bad_pair.Goals as goal
 
 pub loop-i-preserved : goal.loop-i-preserved
 loop-i-preserved g c =
-    let C = WithBarriers (g.P.Piece.conflict c.args.pieces.now) c.args.barriers.now in
+    let C = WithBarriers (g.P.Touching.conflict c.args.pieces.now) c.args.barriers.now in
     below_more (λ (k : ℕ). PairHolds C (length c.args.pieces.now) c.args.pairs.now k) c.loop-i.i c.loop-i.invariant
     (c.pair_holds.ensures.0 c.if-not-pair_holds.false)
 

@@ -8,7 +8,7 @@ use Rattle.dsa_checker.proofs.pairs.pair_holds.Goals.{then-first-i-via-then-firs
 
 pub returns-then-first-i : goal.returns-then-first-i
 returns-then-first-i g c =
-    let C = WithBarriers (g.P.Piece.conflict c.args.pieces.now) c.args.barriers.now in
+    let C = WithBarriers (g.P.Touching.conflict c.args.pieces.now) c.args.barriers.now in
     let n = length c.args.pieces.now in
     let pairs = c.args.pairs.now in
     let i = c.args.i in
@@ -28,7 +28,7 @@ returns-then-first-i g c =
 
 pub returns : goal.returns
 returns g c =
-    let C = WithBarriers (g.P.Piece.conflict c.args.pieces.now) c.args.barriers.now in
+    let C = WithBarriers (g.P.Touching.conflict c.args.pieces.now) c.args.barriers.now in
     let n = length c.args.pieces.now in
     let pairs = c.args.pairs.now in
     let i = c.args.i in

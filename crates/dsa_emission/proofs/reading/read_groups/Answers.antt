@@ -16,7 +16,7 @@ use Rattle.dsa_emission.proofs.reading.read_groups.Goals as goal
 
 -- the kind of the pieces
 abbrev kind : (g : Over) → Kind g.row.P.Denot
-kind g = kind_of g.P.Entry.spelling g.P.Entry.keeps g.P.Piece.size g.P.Piece.reads g.P.Piece.writes
+kind g = kind_of g.P.Entry.spelling g.P.Entry.keeps g.P.Piece.size g.P.Touching.reads g.P.Touching.writes
 
 pub read_group-requires-clause-few : goal.read_group-requires-clause-few
 read_group-requires-clause-few g c =

@@ -10,6 +10,6 @@ invariant-loop-number g l = record {
   batched : l.place.batched ≤ l.place.start;
   batches : l.place.batches ≤ l.place.start;
   read :
-      IsRead (kind_of g.P.Entry.spelling g.P.Entry.keeps g.P.Piece.size g.P.Piece.reads g.P.Piece.writes)
+      IsRead (kind_of g.P.Entry.spelling g.P.Entry.keeps g.P.Piece.size g.P.Touching.reads g.P.Touching.writes)
       l.demands l.all l.staged l.number l.groups.items l.pieces.items;
 }

@@ -21,7 +21,7 @@ use Rattle.dsa_emission.proofs.reading.read_submitted.Goals as goal
 
 -- the kind of the pieces
 abbrev kind : (g : Over) → Kind g.row.P.Denot
-kind g = kind_of g.P.Entry.spelling g.P.Entry.keeps g.P.Piece.size g.P.Piece.reads g.P.Piece.writes
+kind g = kind_of g.P.Entry.spelling g.P.Entry.keeps g.P.Piece.size g.P.Touching.reads g.P.Touching.writes
 
 -- the batches, by what was found
 right_batches : (s : Limits) (portal staging owner : List ℕ) (es st : List (List ℕ)) → es ≡ entries portal → st ≡ entries staging → HasLengths portal staging → owner ≡ owner_at (piece_bytes es st 0 0) →

@@ -9,7 +9,7 @@ use Rattle.dsa_settings.proofs.legal.first_unfenced.Goals as goal
 
 pub returns-in-Some : goal.returns-in-Some
 returns-in-Some g c =
-    let C = g.P.Piece.conflict c.args.pieces.now in
+    let C = g.P.Touching.conflict c.args.pieces.now in
     let groups = c.args.groups.now in
     let m = c.loop-group.group-index in
     let group = c.group-item.result in
@@ -21,7 +21,7 @@ returns-in-Some g c =
 
 pub loop-group-preserved : goal.loop-group-preserved
 loop-group-preserved g c =
-    let C = g.P.Piece.conflict c.args.pieces.now in
+    let C = g.P.Touching.conflict c.args.pieces.now in
     let groups = c.args.groups.now in
     let m = c.loop-group.group-index in
     let group = c.group-item.result in
@@ -49,5 +49,5 @@ loop-group-preserved g c =
 
 pub returns : goal.returns
 returns g c =
-    all_of_plan (g.P.Piece.conflict c.args.pieces.now) c.args.groups.now c.loop-group.group-index (omega arith)
+    all_of_plan (g.P.Touching.conflict c.args.pieces.now) c.args.groups.now c.loop-group.group-index (omega arith)
     c.loop-group.invariant.fenced

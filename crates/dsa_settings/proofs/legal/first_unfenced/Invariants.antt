@@ -8,5 +8,5 @@ abbrev pub invariant-loop-group : goal.invariant-loop-group
 invariant-loop-group g l = record {
   begins : l.start ≡ start_of l.groups l.group-index;
   fenced : (number : ℕ) (group : Group) → number < l.group-index → slice_get l.groups number ≡ Some group →
-      IsFencedWithin (g.P.Piece.conflict l.pieces) (start_of l.groups number) group;
+      IsFencedWithin (g.P.Touching.conflict l.pieces) (start_of l.groups number) group;
 }

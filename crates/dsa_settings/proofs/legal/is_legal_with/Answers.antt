@@ -10,11 +10,11 @@ use Rattle.dsa_settings.proofs.legal.is_legal_with.Goals as goal
 use Rattle.dsa_settings.proofs.legal.is_legal_with.Goals.{In-Some-first_unfenced_with, In_default-first_unfenced_with}
 
 unfenced_is_first : (g : Over) (c : In-Some-first_unfenced_with g) →
-    IsFirstLegalFault (WithBarriers (g.P.Piece.conflict c.args.pieces.now) c.args.barriers.now)
+    IsFirstLegalFault (WithBarriers (g.P.Touching.conflict c.args.pieces.now) c.args.barriers.now)
     c.args.settings.now.greatest_batch (length c.args.pieces.now) c.args.plan.now
     (Unfenced c.in-Some-first_unfenced_with.i c.in-Some-first_unfenced_with.j)
 unfenced_is_first g c =
-    let C = WithBarriers (g.P.Piece.conflict c.args.pieces.now) c.args.barriers.now in
+    let C = WithBarriers (g.P.Touching.conflict c.args.pieces.now) c.args.barriers.now in
     let greatest_batch = c.args.settings.now.greatest_batch in
     let n = length c.args.pieces.now in
     let fault = Unfenced c.in-Some-first_unfenced_with.i c.in-Some-first_unfenced_with.j in
@@ -26,7 +26,7 @@ unfenced_is_first g c =
 
 pub returns-in-Some-first_unfenced_with-clause-fault : goal.returns-in-Some-first_unfenced_with-clause-fault
 returns-in-Some-first_unfenced_with-clause-fault g c =
-    fault_answer (WithBarriers (g.P.Piece.conflict c.args.pieces.now) c.args.barriers.now)
+    fault_answer (WithBarriers (g.P.Touching.conflict c.args.pieces.now) c.args.barriers.now)
     c.args.settings.now.greatest_batch (length c.args.pieces.now) c.args.plan.now
     (Unfenced c.in-Some-first_unfenced_with.i c.in-Some-first_unfenced_with.j)
     (unfenced_is_first g c)
@@ -34,16 +34,16 @@ returns-in-Some-first_unfenced_with-clause-fault g c =
 pub returns-in-Some-first_unfenced_with-clause-legal : goal.returns-in-Some-first_unfenced_with-clause-legal
 returns-in-Some-first_unfenced_with-clause-legal g c = (
   λ e. absurd cc,
-  λ legal. absurd (legal_no_fault (WithBarriers (g.P.Piece.conflict c.args.pieces.now) c.args.barriers.now)
+  λ legal. absurd (legal_no_fault (WithBarriers (g.P.Touching.conflict c.args.pieces.now) c.args.barriers.now)
       c.args.settings.now.greatest_batch (length c.args.pieces.now) c.args.plan.now
       (Unfenced c.in-Some-first_unfenced_with.i c.in-Some-first_unfenced_with.j) legal (unfenced_is_first g c)),
 )
 
 legal : (g : Over) (c : In_default-first_unfenced_with g) →
-    IsLegal (WithBarriers (g.P.Piece.conflict c.args.pieces.now) c.args.barriers.now)
+    IsLegal (WithBarriers (g.P.Touching.conflict c.args.pieces.now) c.args.barriers.now)
     c.args.settings.now.greatest_batch (length c.args.pieces.now) c.args.plan.now
 legal g c =
-    let C = WithBarriers (g.P.Piece.conflict c.args.pieces.now) c.args.barriers.now in
+    let C = WithBarriers (g.P.Touching.conflict c.args.pieces.now) c.args.barriers.now in
     let greatest_batch = c.args.settings.now.greatest_batch in
     let n = length c.args.pieces.now in
     subst (λ (z : Plan). IsLegal C greatest_batch n z) c.groups-groups.ensures
@@ -56,5 +56,5 @@ returns-clause-legal g c = ((λ _. legal g c), λ _. refl)
 
 pub returns-clause-fault : goal.returns-clause-fault
 returns-clause-fault g c =
-    legal_answer (WithBarriers (g.P.Piece.conflict c.args.pieces.now) c.args.barriers.now)
+    legal_answer (WithBarriers (g.P.Touching.conflict c.args.pieces.now) c.args.barriers.now)
     c.args.settings.now.greatest_batch (length c.args.pieces.now) c.args.plan.now (legal g c)

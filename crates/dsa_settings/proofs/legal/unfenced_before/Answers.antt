@@ -8,7 +8,7 @@ use Rattle.dsa_settings.proofs.legal.unfenced_before.Goals as goal
 pub returns-then-fences-i : goal.returns-then-fences-i
 returns-then-fences-i g c =
     let h = c.loop-i.invariant in
-    let C = g.P.Piece.conflict c.args.pieces.now in
+    let C = g.P.Touching.conflict c.args.pieces.now in
     let fences = c.args.fences.now in
     let start = c.args.start in
     let at = c.args.at in
@@ -20,7 +20,7 @@ returns-then-fences-i g c =
 pub returns-then-in_conflict : goal.returns-then-in_conflict
 returns-then-in_conflict g c =
     let h = c.loop-i.invariant in
-    let C = g.P.Piece.conflict c.args.pieces.now in
+    let C = g.P.Touching.conflict c.args.pieces.now in
     let fences = c.args.fences.now in
     let start = c.args.start in
     let at = c.args.at in
@@ -29,7 +29,7 @@ returns-then-in_conflict g c =
     let first : i - 1 < length c.args.pieces.now = omega (arith, h.before, c.requires.within, c.requires.known) in
     let second : at < length c.args.pieces.now = omega (arith, c.requires.within, c.requires.known) in
     let unfenced = not_fenced fences (i - start) flagged c.if-fences-i.false in
-    let seen = pieces_seen _ g.P.Piece.reads g.P.Piece.writes g.P.Piece.conflict c.are_pieces.ensures
+    let seen = pieces_seen _ g.P.Touching.reads g.P.Touching.writes g.P.Touching.conflict c.conflict_as_touched.ensures
     c.args.pieces.now (i - 1) at c.index-pieces-i.result c.index-pieces-at.result
     c.touched_spans.result.reads.items c.touched_spans.result.writes.items
     c.touched_spans-later.result.reads.items c.touched_spans-later.result.writes.items c.in_conflict.result
@@ -41,7 +41,7 @@ returns-then-in_conflict g c =
 pub loop-i-preserved : goal.loop-i-preserved
 loop-i-preserved g c =
     let h = c.loop-i.invariant in
-    let C = g.P.Piece.conflict c.args.pieces.now in
+    let C = g.P.Touching.conflict c.args.pieces.now in
     let fences = c.args.fences.now in
     let start = c.args.start in
     let at = c.args.at in
@@ -50,7 +50,7 @@ loop-i-preserved g c =
     let first : i - 1 < length c.args.pieces.now = omega (arith, h.before, c.requires.within, c.requires.known) in
     let second : at < length c.args.pieces.now = omega (arith, c.requires.within, c.requires.known) in
     let unfenced = not_fenced fences (i - start) flagged c.if-fences-i.false in
-    let seen = pieces_seen _ g.P.Piece.reads g.P.Piece.writes g.P.Piece.conflict c.are_pieces.ensures
+    let seen = pieces_seen _ g.P.Touching.reads g.P.Touching.writes g.P.Touching.conflict c.conflict_as_touched.ensures
     c.args.pieces.now (i - 1) at c.index-pieces-i.result c.index-pieces-at.result
     c.touched_spans.result.reads.items c.touched_spans.result.writes.items
     c.touched_spans-later.result.reads.items c.touched_spans-later.result.writes.items c.in_conflict.result
@@ -66,5 +66,5 @@ loop-i-preserved g c =
 
 pub returns : goal.returns
 returns g c =
-    none_from_start (g.P.Piece.conflict c.args.pieces.now) c.args.start c.args.fences.now c.loop-i.i c.args.at
+    none_from_start (g.P.Touching.conflict c.args.pieces.now) c.args.start c.args.fences.now c.loop-i.i c.args.at
     (omega (arith, c.loop-i-test.false)) c.loop-i.invariant.apart

@@ -8,7 +8,7 @@ invariant-loop-i g l = record {
   begun : l.start ≤ l.i;
   before : l.i ≤ l.at;
   unfenced : (k : ℕ) → l.i < k → k ≤ l.at → ¬ IsFenced l.start l.fences k;
-  apart : (x : ℕ) → l.i ≤ x → x < l.at → ¬ g.P.Piece.conflict l.pieces x l.at;
+  apart : (x : ℕ) → l.i ≤ x → x < l.at → ¬ g.P.Touching.conflict l.pieces x l.at;
 }
 
 abbrev pub decreases-loop-i : goal.decreases-loop-i

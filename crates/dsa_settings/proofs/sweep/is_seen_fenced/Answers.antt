@@ -23,10 +23,10 @@ unfenced_there start at group fences within same read fenced =
 
 pub loop-at-preserved : goal.loop-at-preserved
 loop-at-preserved g c =
-    let reads = g.P.Piece.reads in
-    let writes = g.P.Piece.writes in
+    let reads = g.P.Touching.reads in
+    let writes = g.P.Touching.writes in
     let ps = c.args.pieces.now in
-    let C = g.P.Piece.conflict ps in
+    let C = g.P.Touching.conflict ps in
     let start = c.args.start in
     let group = c.args.group.now in
     let at = c.loop-at.at in
@@ -41,7 +41,7 @@ loop-at-preserved g c =
           past_fence _ reads writes C ps start group c.if-fences-at.accesses.items at
           (fenced_there start at group c.fences.result.now c.loop-at.auto.at within
           c.fences.ensures w.if-fences-at.true)
-          (settled _ reads writes C ps start group (λ i j. (c.are_pieces.ensures ps i j).0)
+          (settled _ reads writes C ps start group (λ i j. (c.conflict_as_touched.ensures ps i j).0)
           c.loop-at.accesses.items at c.loop-at.invariant
           (subst HasNoClash w.as_mut_slice.ensures.value (w.is_clear.ensures w.if-not-is_clear.false)))
       | else-fences-at w ↦
@@ -55,7 +55,7 @@ loop-at-preserved g c =
 pub returns : goal.returns
 returns g c clear i j u =
     let ps = c.args.pieces.now in
-    settled _ g.P.Piece.reads g.P.Piece.writes (g.P.Piece.conflict ps) ps c.args.start c.args.group.now
-    (λ x y. (c.are_pieces.ensures ps x y).0) c.loop-at.accesses.items c.loop-at.at c.loop-at.invariant
+    settled _ g.P.Touching.reads g.P.Touching.writes (g.P.Touching.conflict ps) ps c.args.start c.args.group.now
+    (λ x y. (c.conflict_as_touched.ensures ps x y).0) c.loop-at.accesses.items c.loop-at.at c.loop-at.invariant
     (subst HasNoClash c.as_mut_slice-2.ensures.value (c.is_clear-2.ensures clear)) i j
     (omega (arith, u.pair.ends, c.len.ensures, c.loop-at-test.false)) u

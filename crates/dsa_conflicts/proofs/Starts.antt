@@ -7,8 +7,7 @@ use Rattle.std.proofs.lemmas.Bool.{cases_eq}
 use Rattle.std.proofs.lemmas.Option.{same_Some, slice_get_within, get_or_from_slice_get}
 use Rattle.std.proofs.lemmas.List.Elements.{Contains-append_left, Contains-get_or, Contains-push, Contains-push_cases}
 use Rattle.std.proofs.lemmas.List.Sorted.{IsNonDecreasingBy-push}
-use Rattle.dsa_descriptor.specs.Fields.{Fields}
-use Rattle.dsa_ranges.specs.Ranges.{read_spans, written_spans}
+use Rattle.dsa_descriptor.specs.declared.span.Span.{Span}
 use Rattle.dsa_conflicts.specs.declared.access.Access.TheVariants.{Read, Write}
 use Rattle.dsa_conflicts.specs.declared.touches.Touch.{Touch}
 use Rattle.dsa_conflicts.specs.Ranks.{HasStarts, HoldsFirsts}
@@ -61,9 +60,9 @@ module _ (touches : List Touch) (i : ℕ) (t : Touch) (at : slice_get touches i 
   }
 
 -- so the first addresses of a piece's spans are among the starts of all
-pub piece_has_firsts : (fs : List Fields) (touches : List Touch) (n : ℕ) (starts : List ℕ) → HasTouches touches fs n → HasStarts starts touches (length touches) → (i : ℕ) (d : Fields) → i < n → slice_get fs i ≡ Some d
-    → HoldsFirsts starts (read_spans d) × HoldsFirsts starts (written_spans d)
-piece_has_firsts fs touches n starts has held i d lt at = (
+pub piece_has_firsts : {P : Type 0} (reads writes : P → List Span) (ps : List P) (touches : List Touch) (n : ℕ) (starts : List ℕ) → HasTouches reads writes touches ps n → HasStarts starts touches (length touches)
+    → (i : ℕ) (p : P) → i < n → slice_get ps i ≡ Some p → HoldsFirsts starts (reads p) × HoldsFirsts starts (writes p)
+piece_has_firsts reads writes ps touches n starts has held i d lt at = (
   λ k s at_k.
       let w = at_contains touches (touch i Read s) (has i Read s lt (d, at, (k, at_k))) in
       held w.0 (touch i Read s) (slice_get_within touches w.0 (touch i Read s) w.1) w.1,

@@ -1,10 +1,7 @@
 -- Spans that pieces read and write, and the conflicts of two that overlap.
-use Rattle.std.specs.Prelude.{◌≡◌, ℕ, ◌<◌, List, [], ◌∷◌, Some, slice_get}
+use Rattle.std.specs.Prelude.{◌≡◌, ℕ, ◌<◌, List, Some, drop, slice_get, take}
 use Rattle.std.specs.List.{Contains}
 use Rattle.dsa_descriptor.specs.declared.span.Span.{Span}
-use Rattle.dsa_descriptor.specs.Fields.{Fields}
-use Rattle.dsa_descriptor.specs.Data.{sources, targets, record_span}
-use Rattle.dsa_ranges.specs.Ranges.{read_spans, written_spans}
 use Rattle.dsa_conflicts.specs.declared.access.Access.{Access}
 use Rattle.dsa_conflicts.specs.declared.access.Access.TheVariants.{Read, Write}
 use Rattle.dsa_conflicts.specs.declared.touches.Touch.{Touch}
@@ -15,10 +12,10 @@ use Rattle.dsa_conflicts.specs.declared.touches.Kind.TheVariants.{Source, Record
 abbrev pub touch : ℕ → Access → Span → Touch
 touch piece access span = record { span = span; piece = piece; access = access }
 
--- what a descriptor reads, or what it writes
-abbrev pub spans_by : Access → Fields → List Span
-spans_by Read f = read_spans f
-spans_by Write f = written_spans f
+-- what a piece reads, or what it writes
+abbrev pub spans_by : {P : Type 0} → (P → List Span) → (P → List Span) → Access → P → List Span
+spans_by reads writes Read = reads
+spans_by reads writes Write = writes
 
 -- what a piece does with its spans of a kind
 abbrev pub access_of : Kind → Access
@@ -26,24 +23,28 @@ access_of Source = Read
 access_of Record = Write
 access_of Target = Write
 
--- the spans of a kind that a piece has
-abbrev pub spans_of : Kind → Fields → List Span
-spans_of Source f = sources f.op f.size
-spans_of Record f = record_span f.record_at ∷ []
-spans_of Target f = targets f.op f.size
+-- of the spans that a piece reads and writes those of a kind
+abbrev pub spans_of : Kind → List Span → List Span → List Span
+spans_of Source reads writes = reads
+spans_of Record reads writes = take 1 writes
+spans_of Target reads writes = drop 1 writes
 
 -- a piece accesses a span
-abbrev pub Accesses : List Fields → ℕ → Access → Span → Type 0
-Accesses fs i access s = (f : Fields) × (slice_get fs i ≡ Some f) × ((k : ℕ) × (slice_get (spans_by access f) k ≡ Some s))
+abbrev pub Accesses : {P : Type 0} → (P → List Span) → (P → List Span) → List P → ℕ → Access → Span → Type 0
+Accesses {P} reads writes ps i access s =
+    (p : P) × (slice_get ps i ≡ Some p) × ((k : ℕ) × (slice_get (spans_by reads writes access p) k ≡ Some s))
 
 -- this is an access by one of the pieces
-abbrev pub IsTouchOf : List Fields → Touch → Type 0
-IsTouchOf fs t = Accesses fs t.piece t.access t.span
+abbrev pub IsTouchOf : {P : Type 0} → (P → List Span) → (P → List Span) → List P → Touch → Type 0
+IsTouchOf reads writes ps t = Accesses reads writes ps t.piece t.access t.span
 
 -- all accesses by the first pieces are among these
-abbrev pub HasTouches : List Touch → List Fields → ℕ → Type 0
-HasTouches touches fs n = (i : ℕ) (access : Access) (s : Span) → i < n → Accesses fs i access s → Contains touches (touch i access s)
+abbrev pub HasTouches : {P : Type 0} → (P → List Span) → (P → List Span) → List Touch → List P → ℕ → Type 0
+HasTouches reads writes touches ps n =
+    (i : ℕ) (access : Access) (s : Span) → i < n → Accesses reads writes ps i access s → Contains touches (touch i access s)
 
 -- all accesses of this kind by the first pieces are among these
-abbrev pub HasKind : Kind → List Touch → List Fields → ℕ → Type 0
-HasKind kind touches fs n = (i : ℕ) (f : Fields) (k : ℕ) (s : Span) → i < n → slice_get fs i ≡ Some f → slice_get (spans_of kind f) k ≡ Some s → Contains touches (touch i (access_of kind) s)
+abbrev pub HasKind : {P : Type 0} → (P → List Span) → (P → List Span) → Kind → List Touch → List P → ℕ → Type 0
+HasKind {P} reads writes kind touches ps n =
+    (i : ℕ) (p : P) (k : ℕ) (s : Span) → i < n → slice_get ps i ≡ Some p → slice_get (spans_of kind (reads p) (writes p)) k ≡ Some s
+    → Contains touches (touch i (access_of kind) s)

@@ -3,20 +3,17 @@ use Rattle.std.proofs.Common.{◌≡◌, ◌⊎◌, inl, inr, ℕ, Bool, List, l
 use Rattle.std.specs.Prelude.{IfOk}
 use Rattle.std.proofs.lemmas.List.{length-map}
 use Rattle.dsa_descriptor.specs.declared.descriptor.Descriptor.{Descriptor}
-use Rattle.dsa_descriptor.specs.Fields.{Fields}
 use Rattle.dsa_descriptor.specs.Descriptors.{fields}
 use Rattle.dsa_descriptor.specs.Fences.{barriers_of, unfenced_list}
-use Rattle.dsa_descriptor.proofs.Listed.{are_entries, spelt}
-use Rattle.dsa_descriptor.specs.Faults.{Keeps}
+use Rattle.dsa_descriptor.proofs.Listed.{are_entries}
 use Rattle.dsa_emission.proofs.OfDescriptors.{as_emission, emission_as}
 use Rattle.dsa_ranges.specs.Pieces.{descriptors}
 use Rattle.dsa_ranges.specs.Ranges.{ConflictAt}
 use Rattle.dsa_plan.specs.Barriers.{WithBarriers}
-use Rattle.dsa_plan.specs.Settings.{Limits, tariff_of}
-use Rattle.dsa_plan.specs.Plan.{Plan}
+use Rattle.dsa_plan.specs.Settings.{Limits}
 use Rattle.dsa_plan.specs.Legal.{IsLegal}
 use Rattle.dsa_plan.specs.Certificate.{Contents}
-use Rattle.dsa_plan.specs.EmissionFaults.{IsEmission, IsEmissionAs}
+use Rattle.dsa_plan.specs.EmissionFaults.{IsEmission}
 use Rattle.dsa_splitter.specs.Pieces.{all_pieces}
 use Rattle.dsa_splitter.specs.Rules.{IsSplit}
 use Rattle.dsa_splitter.proofs.OneFault.{split_no_fault}

@@ -2,6 +2,7 @@ pub mod Sizes
 pub mod Over
 pub mod JudgedOnce
 pub mod CheckedOnce
+pub mod BytesChecked
 pub mod Submissions
 pub mod FencedPlans
 pub mod FencedJudged

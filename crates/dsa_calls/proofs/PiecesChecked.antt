@@ -3,10 +3,8 @@ use Rattle.std.proofs.Common.{◌≡◌, ◌⊎◌, inl, inr, if◌then◌else�
 use Rattle.std.proofs.lemmas.Bool.{cases_order}
 use Rattle.dsa_descriptor.specs.Lists.{AreEntries}
 use Rattle.dsa_emission.specs.declared.emission_fault.EmissionFault.{EmissionFault}
-use Rattle.dsa_emission.specs.declared.emission_fault.EmissionFault.TheVariants.{Memory as EmissionMemory}
 use Rattle.dsa_emission.specs.Causes.{emission_is_memory}
-use Rattle.dsa_emission.proofs.OneFault.{one_fault, none_to_tell}
-use Rattle.dsa_emission.proofs.Told.{one_emission_by}
+use Rattle.dsa_emission.proofs.OneFault.{one_fault}
 use Rattle.dsa_ranges.specs.Pieces.{Kind}
 use Rattle.dsa_plan.specs.Settings.{Limits, tariff_of, version_of}
 use Rattle.dsa_plan.specs.Plan.{Plan, plan_cost}
@@ -23,6 +21,7 @@ use Rattle.dsa_calls.specs.declared.checking.FencedFault.TheVariants.{Call, Othe
 use Rattle.dsa_calls.specs.Fault.{emission_cause}
 use Rattle.dsa_calls.specs.Checked.{ChecksPlanBy, IsShownLeastBy}
 use Rattle.dsa_calls.specs.FencedChecked.{IsFirstOther, in_call, ChecksPieces}
+use Rattle.dsa_calls.proofs.BytesChecked.{no_fault, same_emission}
 use Rattle.dsa_calls.proofs.CheckedOnce.{one_checked_by}
 
 abbrev pub refused_call : PlanFault → Result ℕ FencedFault
@@ -69,32 +68,25 @@ shown_by C s n plan c cost chosen version is =
 -- ---- pieces
 
 module _ (P : Type 0) (kind : Kind P) (are : AreEntries kind.spelling kind.keeps) (C : ℕ → ℕ → Type 0) (s : Limits) (pieces : List P) (portal staging : List ℕ) (c : Contents) where
-  same_emission : (plan plan' : Plan) (ps ps' : List P) → IsEmissionAs kind s portal staging plan ps → IsEmissionAs kind s portal staging plan' ps' → (plan ≡ plan') × (ps ≡ ps')
-  same_emission plan plan' ps ps' e e' =
-      one_emission_by P kind are s plan plan' ps ps' e.can_be e'.can_be (sym e.portal_is ∙ e'.portal_is) (sym e.staging_is ∙ e'.staging_is)
-
-  no_fault : (plan : Plan) (ps : List P) (fault : EmissionFault) → IsEmissionAs kind s portal staging plan ps → (fault ≡ EmissionMemory → ⊥) → IsFirstEmissionFaultAs kind s portal staging fault → ⊥
-  no_fault plan ps fault emission other first = none_to_tell P kind are s portal staging plan ps fault emission other first
-
   pub one_pieces : (o p : Result ℕ FencedFault) → ChecksPieces kind C s pieces portal staging c o → ChecksPieces kind C s pieces portal staging c p → o ≡ p
   one_pieces o p (inl (f, nf, first, is)) (inl (g, ng, first', is')) =
       is ∙ ap (λ (x : EmissionFault). Err (Call (Emission x))) (one_fault P kind are s portal staging f g nf ng first first') ∙ sym is'
-  one_pieces o p (inl (f, nf, first, is)) (inr (inl (j, plan, ps, emission, other, is'))) = absurd (no_fault plan ps f emission nf first)
-  one_pieces o p (inl (f, nf, first, is)) (inr (inr (r, plan, emission, checks, is'))) = absurd (no_fault plan pieces f emission nf first)
-  one_pieces o p (inr (inl (i, plan, ps, emission, other, is))) (inl (g, ng, first, is')) = absurd (no_fault plan ps g emission ng first)
-  one_pieces o p (inr (inr (r, plan, emission, checks, is))) (inl (g, ng, first, is')) = absurd (no_fault plan pieces g emission ng first)
+  one_pieces o p (inl (f, nf, first, is)) (inr (inl (j, plan, ps, emission, other, is'))) = absurd (no_fault P kind are portal staging s plan ps f emission nf first)
+  one_pieces o p (inl (f, nf, first, is)) (inr (inr (r, plan, emission, checks, is'))) = absurd (no_fault P kind are portal staging s plan pieces f emission nf first)
+  one_pieces o p (inr (inl (i, plan, ps, emission, other, is))) (inl (g, ng, first, is')) = absurd (no_fault P kind are portal staging s plan ps g emission ng first)
+  one_pieces o p (inr (inr (r, plan, emission, checks, is))) (inl (g, ng, first, is')) = absurd (no_fault P kind are portal staging s plan pieces g emission ng first)
   one_pieces o p (inr (inl (i, plan, ps, emission, other, is))) (inr (inl (j, plan', ps', emission', other', is'))) =
-      let same = same_emission plan plan' ps ps' emission emission' in
+      let same = same_emission P kind are portal staging s plan plan' ps ps' emission emission' in
       let here = subst (λ (xs : List P). IsFirstOther xs pieces j) (sym same.1) other' in
       is ∙ ap (λ (x : ℕ). Err (OtherPiece x)) (one_other ps pieces i j other here) ∙ sym is'
   one_pieces o p (inr (inl (i, plan, ps, emission, other, is))) (inr (inr (r, plan', emission', checks, is'))) =
-      let same = same_emission plan plan' ps pieces emission emission' in
+      let same = same_emission P kind are portal staging s plan plan' ps pieces emission emission' in
       absurd (none_other pieces i (subst (λ (xs : List P). IsFirstOther xs pieces i) same.1 other))
   one_pieces o p (inr (inr (r, plan, emission, checks, is))) (inr (inl (j, plan', ps', emission', other', is'))) =
-      let same = same_emission plan plan' pieces ps' emission emission' in
+      let same = same_emission P kind are portal staging s plan plan' pieces ps' emission emission' in
       absurd (none_other pieces j (subst (λ (xs : List P). IsFirstOther xs pieces j) (sym same.1) other'))
   one_pieces o p (inr (inr (r, plan, emission, checks, is))) (inr (inr (r', plan', emission', checks', is'))) =
-      let same = same_emission plan plan' pieces pieces emission emission' in
+      let same = same_emission P kind are portal staging s plan plan' pieces pieces emission emission' in
       let here = subst (λ (x : Plan). ChecksPlanBy C s (length pieces) x c r') (sym same.0) checks' in
       is ∙ ap in_call (one_checked_by C s (length pieces) plan c r r' checks here) ∙ sym is'
 

@@ -7,6 +7,8 @@ use Rattle.dsa_descriptor.specs.Descriptors.{fields}
 use Rattle.dsa_descriptor.specs.Lists.{HaveOneOwner, list_spelling}
 use Rattle.dsa_descriptor.proofs.Listed.{one_list_spelling}
 use Rattle.dsa_ranges.specs.Ranges.{ConflictAt}
+use Rattle.dsa_emission.proofs.OfDescriptors.{emission_as}
+use Rattle.dsa_plan.specs.EmissionFaults.{IsEmission}
 use Rattle.dsa_plan.specs.Settings.{Limits, tariff_of}
 use Rattle.dsa_plan.specs.Plan.{Plan, plan_cost}
 use Rattle.dsa_plan.specs.Legal.{IsLegal, IsLeast}
@@ -146,19 +148,15 @@ submission_shown s fs p owner sub =
     let good' = subst (λ (w : ℕ). IsGood C s.greatest_batch (tariff_of s) (length p.pieces) p.certificate.prices p.certificate.pairs w) (sym least.1 ∙ sym sub.cost_is) good in
     let legal = subst (λ (n : ℕ). IsLegal C s.greatest_batch n p.plan) (sym count) least.0.legal in
     let can = can_emit C s (map fields p.pieces) p.plan (pieces_can s fs (map fields p.pieces) owner sub.split sub.pieces_are) legal in
+    let emission : IsEmission s p.portal p.staging p.plan p.pieces = record { can_be = can; portal_is = sub.portal_is; staging_is = sub.staging_is } in
     record {
       least = least.0;
       good = good';
       shown = inr (
         p.plan,
         p.pieces,
-        record { can_be = can; portal_is = sub.portal_is; staging_is = sub.staging_is },
-        record {
-          legal = legal;
-          version = sub.version_is;
-          good = subst (λ (n : ℕ). IsGood C s.greatest_batch (tariff_of s) n p.certificate.prices p.certificate.pairs p.cost) (sym count) good';
-          is_cost = sub.cost_is;
-        },
+        emission_as s p.portal p.staging p.plan p.pieces emission,
+        record { legal = least.0.legal; version = sub.version_is; good = good'; is_cost = sub.cost_is },
       );
     }
 

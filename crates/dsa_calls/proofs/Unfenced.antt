@@ -12,7 +12,7 @@ use Rattle.dsa_plan.specs.Barriers.{IsBarrier, WithBarriers}
 use Rattle.dsa_plan.specs.Plan.{Plan}
 use Rattle.dsa_plan.specs.Settings.{Limits}
 use Rattle.dsa_calls.specs.declared.fault.PlanFault.{PlanFault}
-use Rattle.dsa_calls.specs.Judge.{Judges, JudgesPieces, JudgesPiecesBy}
+use Rattle.dsa_calls.specs.Judge.{Judges, JudgesPieces, JudgesPiecesBy, sizes_of}
 use Rattle.dsa_calls.specs.Lists.{IsListOf, OverList}
 use Rattle.dsa_calls.specs.Planned.{Plans, PlansOperations}
 use Rattle.dsa_descriptor.specs.Fences.{fences_of, unfenced_list, after_first, barriers_of}
@@ -74,7 +74,7 @@ listed_unfenced bytes ds listed =
     subst (λ (b : List ℕ). IsListOf b ds) (sym (unfenced_stays bytes (none_listed bytes ds listed.spelled listed.owner))) listed
 
 -- judging without barriers says what judging says
-no_marks_judge_alike : (plan : Plan) (s : Limits) (fs : List Fields) (outcome : Result ℕ PlanFault) → JudgesPiecesBy (WithBarriers (ConflictAt fs) []) fs plan s outcome ↔ JudgesPieces fs plan s outcome
+no_marks_judge_alike : (plan : Plan) (s : Limits) (fs : List Fields) (outcome : Result ℕ PlanFault) → JudgesPiecesBy (WithBarriers (ConflictAt fs) []) (sizes_of fs) plan s outcome ↔ JudgesPieces fs plan s outcome
 unfolding WithBarriers
 no_marks_judge_alike plan s fs (Ok cost) = (λ h. h, λ h. h)
 no_marks_judge_alike plan s fs (Err fault) = (λ h. h, λ h. h)
@@ -82,10 +82,10 @@ no_marks_judge_alike plan s fs (Err fault) = (λ h. h, λ h. h)
 pub no_fences_judge_alike : NoFencesJudgeAlike
 no_fences_judge_alike bytes plan s outcome none =
     subst (λ (plain : List ℕ). JudgesFenced bytes plan s outcome ↔ Judges plain plan s outcome) (unfenced_unset bytes none)
-    (subst (λ (marks : List Bool). OverList (λ fs o. JudgesPiecesBy (WithBarriers (ConflictAt fs) marks) fs plan s o) (unfenced_list bytes) outcome ↔ Judges (unfenced_list bytes) plan s outcome)
+    (subst (λ (marks : List Bool). OverList (λ fs o. JudgesPiecesBy (WithBarriers (ConflictAt fs) marks) (sizes_of fs) plan s o) (unfenced_list bytes) outcome ↔ Judges (unfenced_list bytes) plan s outcome)
     (sym (no_barriers bytes (λ k some is. none k is))) (
-      over_goes (λ fs o. JudgesPiecesBy (WithBarriers (ConflictAt fs) []) fs plan s o) (λ fs o. JudgesPieces fs plan s o) (λ fs o. (no_marks_judge_alike plan s fs o).0) (unfenced_list bytes) outcome,
-      over_goes (λ fs o. JudgesPieces fs plan s o) (λ fs o. JudgesPiecesBy (WithBarriers (ConflictAt fs) []) fs plan s o) (λ fs o. (no_marks_judge_alike plan s fs o).1) (unfenced_list bytes) outcome,
+      over_goes (λ fs o. JudgesPiecesBy (WithBarriers (ConflictAt fs) []) (sizes_of fs) plan s o) (λ fs o. JudgesPieces fs plan s o) (λ fs o. (no_marks_judge_alike plan s fs o).0) (unfenced_list bytes) outcome,
+      over_goes (λ fs o. JudgesPieces fs plan s o) (λ fs o. JudgesPiecesBy (WithBarriers (ConflictAt fs) []) (sizes_of fs) plan s o) (λ fs o. (no_marks_judge_alike plan s fs o).1) (unfenced_list bytes) outcome,
     ))
 
 pub no_fences_plan_alike : NoFencesPlanAlike

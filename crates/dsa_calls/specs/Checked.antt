@@ -1,14 +1,13 @@
 -- What checking says of the bytes of an emission, the settings and a certificate.
-use Rattle.std.specs.Prelude.{◌≡◌, ◌≢◌, ◌⊎◌, ℕ, List, length, map, Result, Ok, Err}
-use Rattle.dsa_descriptor.specs.declared.descriptor.Descriptor.{Descriptor}
+use Rattle.std.specs.Prelude.{◌≡◌, ◌≢◌, ◌⊎◌, ℕ, List, length, Result, Ok, Err}
 use Rattle.dsa_descriptor.specs.Fields.{Fields}
-use Rattle.dsa_descriptor.specs.Descriptors.{fields}
+use Rattle.dsa_ranges.specs.Pieces.{DescriptorConflictAt, Kind, descriptors}
 use Rattle.dsa_ranges.specs.Ranges.{ConflictAt}
 use Rattle.dsa_plan.specs.Settings.{Limits, tariff_of, version_of}
 use Rattle.dsa_plan.specs.Plan.{Plan, plan_cost}
 use Rattle.dsa_plan.specs.Legal.{IsLegal}
 use Rattle.dsa_plan.specs.Certificate.{IsGood}
-use Rattle.dsa_plan.specs.EmissionFaults.{IsEmission, IsFirstEmissionFault}
+use Rattle.dsa_plan.specs.EmissionFaults.{IsEmissionAs, IsFirstEmissionFaultAs}
 use Rattle.dsa_emission.specs.declared.emission_fault.EmissionFault.{EmissionFault}
 use Rattle.dsa_emission.specs.declared.emission_fault.EmissionFault.TheVariants.{Memory as EmissionMemory}
 use Rattle.dsa_plan.specs.Certificate.{Contents}
@@ -39,9 +38,13 @@ ChecksPlanBy C s n plan c (Err cause) =
 abbrev pub ChecksPlan : Limits → List Fields → Plan → Contents → Result ℕ PlanFault → Type 0
 ChecksPlan s pieces plan c outcome = ChecksPlanBy (ConflictAt pieces) s (length pieces) plan c outcome
 
--- the outcome of checking these bytes: their first fault as an emission, or the outcome of checking the plan whose emission
--- they are
+-- The outcome of checking these bytes as an emission of pieces of a kind: their first fault as such, or the outcome of
+-- checking the plan whose emission they are. `conflict` says which pieces of a list conflict.
+abbrev pub ChecksSubmitted : {P : Type 0} → Kind P → (List P → ℕ → ℕ → Type 0) → List ℕ → List ℕ → Limits → Contents → Result ℕ PlanFault → Type 0
+ChecksSubmitted {P} kind conflict portal staging s c outcome =
+    ((fault : EmissionFault) × (fault ≢ EmissionMemory) × IsFirstEmissionFaultAs kind s portal staging fault × (outcome ≡ Err (Emission fault)))
+    ⊎ ((plan : Plan) × (ps : List P) × IsEmissionAs kind s portal staging plan ps × ChecksPlanBy (conflict ps) s (length ps) plan c outcome)
+
+-- the same of descriptors
 abbrev pub Checks : List ℕ → List ℕ → Limits → Contents → Result ℕ PlanFault → Type 0
-Checks portal staging s c outcome =
-    ((fault : EmissionFault) × (fault ≢ EmissionMemory) × IsFirstEmissionFault s portal staging fault × (outcome ≡ Err (Emission fault)))
-    ⊎ ((plan : Plan) × (ds : List Descriptor) × IsEmission s portal staging plan ds × ChecksPlan s (map fields ds) plan c outcome)
+Checks portal staging s c outcome = ChecksSubmitted descriptors DescriptorConflictAt portal staging s c outcome

@@ -14,7 +14,7 @@ use Rattle.dsa_splitter.specs.Pieces.{all_pieces, piece_barriers}
 use Rattle.dsa_splitter.specs.Rules.{IsSplit}
 use Rattle.dsa_calls.specs.declared.fault.PlanFault.{PlanFault}
 use Rattle.dsa_calls.specs.Lists.{IsListOf, OverList}
-use Rattle.dsa_calls.specs.Judge.{Judges, JudgesPiecesBy}
+use Rattle.dsa_calls.specs.Judge.{Judges, JudgesPiecesBy, sizes_of}
 use Rattle.dsa_calls.specs.Planned.{Submission, IsSubmissionOfPiecesBy, Plans, PlansOperations}
 
 -- the pieces of these operations conflict, or a barrier of the operations is between them
@@ -61,7 +61,7 @@ pub record IsFencedLeast (bytes : List ℕ) (s : Limits) (p : Submission) : Type
 -- outcome of judging the pieces that those spell, with the fences as barriers
 abbrev pub JudgesFenced : List ℕ → Plan → Limits → Result ℕ PlanFault → Type 0
 JudgesFenced bytes plan s outcome =
-    OverList (λ pieces o. JudgesPiecesBy (WithBarriers (ConflictAt pieces) (barriers_of bytes)) pieces plan s o) (unfenced_list bytes) outcome
+    OverList (λ pieces o. JudgesPiecesBy (WithBarriers (ConflictAt pieces) (barriers_of bytes)) (sizes_of pieces) plan s o) (unfenced_list bytes) outcome
 
 -- planning with fences has at most one outcome for bytes and settings
 abbrev pub OneFencedPlan : Type 0

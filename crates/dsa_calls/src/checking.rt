@@ -6,7 +6,7 @@ ghost use Rattle.dsa_descriptor.specs.Descriptors.{fields};
 ghost use Rattle.dsa_descriptor.specs.Pieces.{most_pieces};
 ghost use Rattle.dsa_ranges.specs.Pieces.{kind_of};
 ghost use Rattle.dsa_ranges.specs.Ranges.{ConflictAt};
-ghost use Rattle.dsa_plan.specs.EmissionFaults.{IsEmission};
+ghost use Rattle.dsa_plan.specs.EmissionFaults.{IsEmission, IsEmissionAs};
 ghost use Rattle.dsa_plan.specs.Barriers.{WithBarriers};
 ghost use Rattle.dsa_plan.specs.Legal.{IsLeast};
 ghost use Rattle.dsa_plan.specs.Plan.{Plan};
@@ -17,22 +17,22 @@ ghost use Rattle.dsa_calls.specs.declared.fault.PlanFault.TheVariants.{Memory};
 ghost use Rattle.dsa_calls.specs.declared.checking.FencedFault.{FencedFault};
 ghost use Rattle.dsa_calls.specs.declared.checking.FencedFault.TheVariants.{Call};
 ghost use Rattle.dsa_calls.specs.Lists.{OrMemory, IsOrMemory};
-ghost use Rattle.dsa_calls.specs.Checked.{Checks, ChecksPlanBy};
+ghost use Rattle.dsa_calls.specs.Checked.{Checks, ChecksPlanBy, ChecksSubmitted};
 ghost use Rattle.dsa_calls.specs.FencedChecked.{ChecksFenced, ChecksPieces, IsFirstOther, IsLeastEmission};
 
 use crate::fault::PlanFault;
 use crate::planning::fenced_pieces;
 use dsa_checker::check_with;
-use dsa_plan::{Certificate, Plan, Settings, read_emission, read_submitted};
+use dsa_descriptor::Descriptor;
+use dsa_plan::{Certificate, Plan, Settings, read_submitted};
 use dsa_ranges::Piece;
 use std::alloc::Global;
 
-/// The cost of the plan that the bytes of a portal and a staging area submit, if it is legal and the certificate proves
-/// that no legal plan of its pieces costs less.
+/// The cost of the plan that the bytes of a portal and a staging area submit, as [`check_submitted`] checks it, if they
+/// submit descriptors.
 ///
 /// # Errors
-/// The first fault of the bytes as an emission, as [`read_emission`] reports it; else the first fault of the plan or
-/// the certificate, as [`check_with`] reports it; [`PlanFault::Memory`] if an allocation fails.
+/// Those of [`check_submitted`].
 pub fn check_bytes(
     alloc: Global,
     portal: &[u8],
@@ -52,7 +52,39 @@ pub fn check_bytes(
         IsLeast (ConflictAt (map fields ds))
         settings.now.greatest_batch (tariff_of settings.now) (length ds) plan }
 {
-    let (plan, pieces) = read_emission(alloc, portal, staging, settings)?;
+    check_submitted::<Descriptor>(alloc, portal, staging, settings, certificate)
+}
+
+/// The cost of the plan that the bytes of a portal and a staging area submit, if they submit pieces of that kind, the
+/// plan is legal, and the certificate proves that no legal plan of its pieces costs less.
+///
+/// # Errors
+/// The first fault of the bytes as an emission, as [`read_submitted`] reports it; else the first fault of the plan or
+/// the certificate, as [`check_with`] reports it; [`PlanFault::Memory`] if an allocation fails.
+pub fn check_submitted<P: Piece>(
+    alloc: Global,
+    portal: &[u8],
+    staging: &[u8],
+    settings: &Settings,
+    certificate: &Certificate,
+) -> Result<u64, PlanFault>
+    ensures answer { OrMemory (λ cost. cost)
+        (ChecksSubmitted (kind_of P.spelling P.keeps P.size P.reads P.writes) P.conflict
+        portal.now staging.now settings.now (contents certificate.now)) result }
+    // What it answers is the one outcome, but for an allocation failure.
+    ensures only { (outcome : Result ℕ PlanFault) →
+        ChecksSubmitted (kind_of P.spelling P.keeps P.size P.reads P.writes) P.conflict
+        portal.now staging.now settings.now (contents certificate.now) outcome →
+        IsOrMemory (λ cost. cost) outcome result }
+    // If it answers, no legal plan of these pieces costs less, whoever wrote the certificate.
+    ensures least { let kind = kind_of P.spelling P.keeps P.size P.reads P.writes in
+        (plan : Plan) (ps : List P) →
+        IsEmissionAs kind settings.now portal.now staging.now plan ps → IsOk result →
+        IsLeast (P.conflict ps)
+        settings.now.greatest_batch (tariff_of settings.now) (length ps) plan }
+{
+    P::are_entries();
+    let (plan, pieces) = read_submitted::<P>(alloc, portal, staging, settings)?;
     check_plan(&pieces, &[], settings, &plan, certificate)
 }
 
@@ -150,9 +182,8 @@ pub fn check_pieces<P: Piece>(
 ///
 /// # Errors
 /// What planning the list refuses, as [`plan_fenced_list`](crate::plan_fenced_list) reports it; else the first fault of
-/// the bytes as an emission, as [`read_emission`] does; else [`FencedFault::OtherPiece`] with the least index; else the
-/// first fault of the plan or the certificate, as [`check_plan`] does; [`PlanFault::Memory`] if an allocation
-/// fails.
+/// the bytes as an emission, as [`read_submitted`] does; else [`FencedFault::OtherPiece`] with the least index; else
+/// the first fault of the plan or certificate, as [`check_plan`] does; [`PlanFault::Memory`] if an allocation fails.
 pub fn check_fenced_list(
     alloc: Global,
     list: &[u8],

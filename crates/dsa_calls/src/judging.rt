@@ -2,16 +2,15 @@
 
 ghost use Rattle.std.specs.Prelude.{ℕ, Result, map};
 ghost use Rattle.dsa_calls.specs.declared.fault.PlanFault.{PlanFault};
-ghost use Rattle.dsa_descriptor.specs.Descriptors.{fields};
-ghost use Rattle.dsa_ranges.specs.Ranges.{ConflictAt};
 ghost use Rattle.dsa_plan.specs.Barriers.{WithBarriers};
 ghost use Rattle.dsa_calls.specs.Fenced.{JudgesFenced};
 ghost use Rattle.dsa_calls.specs.Judge.{Judges, JudgesPiecesBy, FindsOver};
 ghost use Rattle.dsa_calls.specs.Lists.{OrMemory, IsOrMemory};
 
 use crate::fault::PlanFault;
-use dsa_descriptor::{Descriptor, MOST_PIECES, read_descriptor_list, read_list};
+use dsa_descriptor::{MOST_PIECES, read_descriptor_list, read_list};
 use dsa_plan::{Plan, Settings, cost, is_legal_with};
+use dsa_ranges::Piece;
 use dsa_splitter::SplitFault;
 use std::alloc::Global;
 
@@ -60,14 +59,14 @@ pub fn judge_fenced_list(
 /// The cost of the plan for the pieces and their barriers, or the first cause to refuse it, as [`judge_bytes`] judges
 /// those that bytes spell: for callers that have read a list already, and know that its pieces have one owner. The mark
 /// of a piece says whether it begins after a barrier; without marks there are none.
-pub fn judge_pieces(
-    pieces: &[Descriptor],
+pub fn judge_pieces<P: Piece>(
+    pieces: &[P],
     barriers: &[bool],
     plan: &Plan,
     settings: &Settings,
 ) -> Result<u64, PlanFault>
-    ensures { JudgesPiecesBy (WithBarriers (ConflictAt (map fields pieces.now)) barriers.now)
-        (map fields pieces.now) plan.now settings.now result }
+    ensures { JudgesPiecesBy (WithBarriers (P.conflict pieces.now) barriers.now)
+        (map P.size pieces.now) plan.now settings.now result }
 {
     if pieces.len() > MOST_PIECES {
         return Err(PlanFault::Split(SplitFault::TooManyPieces));
@@ -80,11 +79,11 @@ pub fn judge_pieces(
 }
 
 /// The index of the first piece longer than the greatest transfer.
-fn first_over(pieces: &[Descriptor], greatest: u64) -> Option<usize>
-    ensures { FindsOver greatest (map fields pieces.now) result }
+pub fn first_over<P: Piece>(pieces: &[P], greatest: u64) -> Option<usize>
+    ensures { FindsOver greatest (map P.size pieces.now) result }
 {
     for (index, piece) in pieces.iter().enumerate() {
-        if u64::from(piece.size) > greatest {
+        if u64::from(piece.transfer_size()) > greatest {
             return Some(index);
         }
     }

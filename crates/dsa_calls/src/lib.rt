@@ -11,10 +11,12 @@ mod planning;
 mod replaying;
 mod running;
 
-pub use checking::{FencedFault, check_bytes, check_fenced_list, check_pieces, check_plan};
+pub use checking::{
+    FencedFault, check_bytes, check_fenced_list, check_pieces, check_plan, check_submitted,
+};
 pub use dsa_descriptor::MOST_PIECES;
 pub use fault::{InnerFault, PlanFault};
-pub use judging::{judge_bytes, judge_fenced_list, judge_pieces};
+pub use judging::{first_over, judge_bytes, judge_fenced_list, judge_pieces};
 pub use laws::{
     fenced_plan_is_checked, fenced_plan_is_least, judges_without_fences, one_checked,
     one_fenced_check, one_fenced_plan, one_judged, one_planned, one_replayed, one_run,

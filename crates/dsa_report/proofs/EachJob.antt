@@ -12,7 +12,7 @@ use Rattle.dsa_calls.specs.Checked.{Checks}
 use Rattle.dsa_calls.specs.Runs.{Left, Replays}
 use Rattle.dsa_calls.proofs.JudgedOnce.{one_judged}
 use Rattle.dsa_calls.proofs.Submissions.{one_planned}
-use Rattle.dsa_calls.proofs.CheckedOnce.{one_checked}
+use Rattle.dsa_calls.proofs.BytesChecked.{one_checked}
 use Rattle.dsa_calls.proofs.Histories.{one_replayed, one_run}
 use Rattle.dsa_cert.proofs.Objects.{are_apart}
 use Rattle.dsa_report.specs.declared.jobs.JobName.{JobName}

@@ -3,6 +3,7 @@ use Rattle.std.proofs.Common.{◌≡◌, inl, inr, ℕ, ◌+◌, ◌≤◌, List
 use Rattle.std.proofs.lemmas.List.{take_all}
 use Rattle.dsa_descriptor.specs.Descriptors.{fields}
 use Rattle.dsa_descriptor.specs.Fields.{Fields}
+use Rattle.dsa_ranges.specs.Pieces.{DescriptorConflictAt}
 use Rattle.dsa_ranges.specs.Ranges.{ConflictAt}
 use Rattle.dsa_plan.specs.Certificate.{Contents}
 use Rattle.dsa_plan.specs.Plan.{Plan, Tariff}
@@ -11,8 +12,8 @@ use Rattle.dsa_checker.specs.Checked.{HasLengths, IsFirstCheckFault}
 use Rattle.dsa_checker.specs.declared.fault.CheckFault.{CheckFault}
 use Rattle.dsa_checker.specs.declared.fault.CheckFault.TheVariants.{Plan as BadPlan, Version, Lengths, Pair, Price, Total}
 use Rattle.dsa_calls.specs.declared.fault.PlanFault.{PlanFault}
-use Rattle.dsa_calls.specs.Checked.{Checks, ChecksPlan}
-use Rattle.dsa_calls.specs.Judge.{Judges, JudgesPieces}
+use Rattle.dsa_calls.specs.Checked.{Checks, ChecksPlanBy}
+use Rattle.dsa_calls.specs.Judge.{Judges, JudgesPieces, sizes_of}
 use Rattle.dsa_cert.specs.Document.{kept_contents, most_pairs, most_prices}
 use Rattle.dsa_report.specs.declared.jobs.JobName.TheVariants.{Judge, Plan as PlanList, Check, Replay, Run}
 use Rattle.dsa_report.specs.Laws.{KeptIsAnsweredAlike}
@@ -25,12 +26,12 @@ use Rattle.dsa_report.proofs.SettingsRead.{take_short}
 module _ (p q : Plan) (alike : AreAlike most_groups p q) (settings : Limits) where
   pieces_alike : (pieces : List Fields) (outcome : Result ℕ PlanFault) → JudgesPieces pieces p settings outcome → JudgesPieces pieces q settings outcome
   pieces_alike pieces (Ok cost) (few, fit, legal, is) =
-      let same = legal_same (ConflictAt pieces) settings.greatest_batch most_groups (length pieces) (omega (arith, few)) p q alike legal in
+      let same = legal_same (ConflictAt pieces) settings.greatest_batch most_groups (length (sizes_of pieces)) (omega (arith, few)) p q alike legal in
       subst (λ (x : Plan). JudgesPieces pieces x settings (Ok cost)) same (few, fit, legal, is)
   pieces_alike pieces (Err cause) (inl many) = inl many
   pieces_alike pieces (Err cause) (inr (inl over)) = inr (inl over)
   pieces_alike pieces (Err cause) (inr (inr (fault, is, few, fit, first))) =
-      inr (inr (fault, is, few, fit, fault_same (ConflictAt pieces) settings.greatest_batch most_groups (length pieces) (omega (arith, few)) p q alike fault first))
+      inr (inr (fault, is, few, fit, fault_same (ConflictAt pieces) settings.greatest_batch most_groups (length (sizes_of pieces)) (omega (arith, few)) p q alike fault first))
 
   judged_alike : (bytes : List ℕ) (outcome : Result ℕ PlanFault) → Judges bytes p settings outcome → Judges bytes q settings outcome
   judged_alike bytes outcome (inl no_list) = inl no_list
@@ -71,17 +72,16 @@ module _ (C : ℕ → ℕ → Type 0) (greatest_batch : ℕ) (tariff : Tariff) (
   check_alike (Price i j) first = subst (λ (x : Contents). IsFirstCheckFault C greatest_batch tariff version n plan x (Price i j)) (one.same first.0.lengths) first
   check_alike Total first = subst (λ (x : Contents). IsFirstCheckFault C greatest_batch tariff version n plan x Total) (one.same first.0.lengths) first
 
-plan_alike : (s : Limits) (pieces : List Fields) (plan : Plan) (c d : Contents) → AreOne (length pieces) c d → (outcome : Result ℕ PlanFault) → ChecksPlan s pieces plan c outcome → ChecksPlan s pieces plan d outcome
-plan_alike s pieces plan c d one (Ok cost) shown =
+plan_alike : (C : ℕ → ℕ → Type 0) (s : Limits) (n : ℕ) (plan : Plan) (c d : Contents) → AreOne n c d → (outcome : Result ℕ PlanFault) → ChecksPlanBy C s n plan c outcome → ChecksPlanBy C s n plan d outcome
+plan_alike C s n plan c d one (Ok cost) shown =
     let same = one.same (record { prices = shown.good.price_count; pairs = shown.good.pair_count }) in
-    subst (λ (x : Contents). ChecksPlan s pieces plan x (Ok cost)) same shown
-plan_alike s pieces plan c d one (Err cause) (fault, is, first) =
-    (fault, is, check_alike (ConflictAt pieces) s.greatest_batch (tariff_of s) (version_of s) (length pieces) plan c d one fault first)
+    subst (λ (x : Contents). ChecksPlanBy C s n plan x (Ok cost)) same shown
+plan_alike C s n plan c d one (Err cause) (fault, is, first) = (fault, is, check_alike C s.greatest_batch (tariff_of s) (version_of s) n plan c d one fault first)
 
 checked_alike : (portal staging : List ℕ) (s : Limits) (c d : Contents) → ((n : ℕ) → n ≤ 65536 → AreOne n c d) → (outcome : Result ℕ PlanFault) → Checks portal staging s c outcome → Checks portal staging s d outcome
 checked_alike portal staging s c d one outcome (inl no_emission) = inl no_emission
 checked_alike portal staging s c d one outcome (inr (plan, ds, emission, says)) =
-    inr (plan, ds, emission, plan_alike s (map fields ds) plan c d (one (length (map fields ds)) emission.can_be.few) outcome says)
+    inr (plan, ds, emission, plan_alike (DescriptorConflictAt ds) s (length ds) plan c d (one (length ds) emission.can_be.few) outcome says)
 
 -- ---- calls
 

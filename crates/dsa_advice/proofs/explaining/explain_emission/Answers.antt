@@ -1,8 +1,10 @@
-use Rattle.std.proofs.Common.{inr, [], Some, Err, Ok, map, refl}
+use Rattle.std.proofs.Common.{inr, [], Some, Err, Ok, length, map, refl}
 use Rattle.std.proofs.lemmas.Result.{IfOk-weaker}
 use Rattle.dsa_descriptor.specs.Descriptors.{fields}
 use Rattle.dsa_plan.specs.Certificate.{contents}
-use Rattle.dsa_calls.proofs.CheckedOnce.{one_plan_checked, plain_checked}
+use Rattle.dsa_ranges.specs.Pieces.{DescriptorConflictAt}
+use Rattle.dsa_calls.proofs.BytesChecked.{descriptors_emission}
+use Rattle.dsa_calls.proofs.CheckedOnce.{one_plan_checked, plain_by, plain_checked}
 use Rattle.dsa_advice.specs.Explained.{is_refused_check, is_checked}
 use Rattle.dsa_advice.specs.Shown.{unlabelled}
 use Rattle.dsa_advice.proofs.Answered.{subject_answered, same_cause}
@@ -22,7 +24,7 @@ returns-in-Ok-clause-refused c = λ fault checks.
 
 pub returns-in-Err-clause-answer : goal.returns-in-Err-clause-answer
 returns-in-Err-clause-answer c = λ portal staging emission.
-    IfOk-weaker c.fault.result _ _ (λ a h. is_refused_check c.in-Err.fault (inr (inr (c.args.plan.now, c.args.pieces.now, emission, plain_checked c.args.settings.now c.args.pieces.now c.args.plan.now (contents c.args.certificate.now) (Err c.in-Err.fault) c.in-Err.ensures))) h) c.fault.ensures
+    IfOk-weaker c.fault.result _ _ (λ a h. is_refused_check c.in-Err.fault (inr (inr (c.args.plan.now, c.args.pieces.now, descriptors_emission c.args.settings.now portal staging c.args.plan.now c.args.pieces.now emission, plain_by (DescriptorConflictAt c.args.pieces.now) c.args.settings.now (length c.args.pieces.now) c.args.plan.now (contents c.args.certificate.now) (Err c.in-Err.fault) c.in-Err.ensures))) h) c.fault.ensures
 
 pub returns-in-Err-clause-refused : goal.returns-in-Err-clause-refused
 returns-in-Err-clause-refused c = λ fault checks.

@@ -12,12 +12,12 @@ use Rattle.dsa_advice.proofs.judging.explain_pieces.Goals.{After-answer_judged, 
 said_ok : (c : After-answer_judged) → JudgesPieces (map fields c.args.list.now.descriptors.items) c.args.plan.now c.args.settings.now (Ok c.in-Ok.cost)
 said_ok c =
     subst (λ (ds : List Descriptor). JudgesPieces (map fields ds) c.args.plan.now c.args.settings.now (Ok c.in-Ok.cost)) c.deref.ensures.value
-    (plain_judged (map fields c.deref.result.now) c.args.plan.now c.args.settings.now (Ok c.in-Ok.cost) c.in-Ok.ensures)
+    (plain_judged c.deref.result.now c.args.plan.now c.args.settings.now (Ok c.in-Ok.cost) c.in-Ok.ensures)
 
 said_err : (c : After-refuse_judged) → JudgesPieces (map fields c.args.list.now.descriptors.items) c.args.plan.now c.args.settings.now (Err c.in-Err.fault)
 said_err c =
     subst (λ (ds : List Descriptor). JudgesPieces (map fields ds) c.args.plan.now c.args.settings.now (Err c.in-Err.fault)) c.deref.ensures.value
-    (plain_judged (map fields c.deref.result.now) c.args.plan.now c.args.settings.now (Err c.in-Err.fault) c.in-Err.ensures)
+    (plain_judged c.deref.result.now c.args.plan.now c.args.settings.now (Err c.in-Err.fault) c.in-Err.ensures)
 
 pub returns-in-Ok-clause-answer : goal.returns-in-Ok-clause-answer
 returns-in-Ok-clause-answer c = λ bytes listed.

@@ -1,6 +1,5 @@
-use Rattle.std.proofs.Common.{Err, map}
+use Rattle.std.proofs.Common.{Err}
 use Rattle.std.proofs.lemmas.Result.{err_from_is_err_and}
-use Rattle.dsa_descriptor.specs.Descriptors.{fields}
 use Rattle.dsa_calls.specs.Lists.{OrMemory}
 use Rattle.dsa_calls.specs.Judge.{Judges, JudgesPieces}
 use Rattle.dsa_calls.proofs.Over.{list_refused, only_outcome}
@@ -19,7 +18,7 @@ answer c =
     let found = c.in_ok-pieces.ensures.found in
     list_judged c.args.list.now c.args.plan.now c.args.settings.now c.in_ok-pieces.pieces.items c.deref.result.now c.judge_pieces.result
     (record { spelled = found.0; owner = found.1 }) c.deref.ensures.value
-    (plain_judged (map fields c.deref.result.now) c.args.plan.now c.args.settings.now c.judge_pieces.result c.judge_pieces.ensures)
+    (plain_judged c.deref.result.now c.args.plan.now c.args.settings.now c.judge_pieces.result c.judge_pieces.ensures)
 
 pub returns-clause-answer : goal.returns-clause-answer
 returns-clause-answer c = answer c

@@ -1,4 +1,4 @@
-use Rattle.dsa_calls.proofs.CheckedOnce.{one_checked}
+use Rattle.dsa_calls.proofs.BytesChecked.{one_checked}
 use Rattle.dsa_calls.proofs.laws.one_checked.Goals as goal
 
 pub returns : goal.returns

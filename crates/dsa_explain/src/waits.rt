@@ -1,7 +1,6 @@
 //! Which earlier groups each group of a plan waits for, if each is a submission of its own.
 
-ghost use Rattle.std.specs.Prelude.{◌≡◌, ◌++◌, ◌<◌, ◌≤◌, IfOk, MatchResult, OnOk, codes, decimal, length, map, string_bytes};
-ghost use Rattle.dsa_descriptor.specs.Descriptors.{fields};
+ghost use Rattle.std.specs.Prelude.{◌≡◌, ◌++◌, ◌<◌, ◌≤◌, IfOk, MatchResult, OnOk, codes, decimal, length, string_bytes};
 ghost use Rattle.dsa_tracker.specs.Table.{IsExactly, WaitsFor};
 ghost use Rattle.dsa_tracker.specs.Words.{IsTracker, table_in};
 ghost use Rattle.dsa_explain.specs.declared.waits.WaitsFault.TheVariants.{Memory};
@@ -86,10 +85,9 @@ pub fn group_waits(
     pieces: &[Descriptor],
     staging: u64,
 ) -> Result<Waits, WaitsFault>
-    ensures { let list = map fields pieces.now in
-        MatchResult result
-        (λ w. AreWaits staging plan.now list w.slots.items w.sets.items)
-        (RefusesWaits staging plan.now list) }
+    ensures { MatchResult result
+        (λ w. AreWaits staging plan.now pieces.now w.slots.items w.sets.items)
+        (RefusesWaits staging plan.now pieces.now) }
 {
     let mut tracker = words::begun(alloc, MOST_GROUPS, MOST_SPANS, LOG2_ROWS, LOG2_UNIT)?;
     let mut slots = vec![in alloc; 0; plan.groups().len()]?;

@@ -11,19 +11,11 @@ use Rattle.dsa_flight.specs.Hosted.{Host, AnyPiece}
 use Rattle.dsa_flight.specs.Hosted.Host.{HostRead, HostWrite}
 use Rattle.dsa_flight.specs.Hosted.AnyPiece.{Device, OfHost}
 
--- a submission of descriptors reads what its pieces read
-abbrev pub all_reads : List Fields → List Span
-all_reads pieces = flat_map read_spans pieces
-
--- and its pieces write this
-abbrev pub all_writes : List Fields → List Span
-all_writes pieces = flat_map written_spans pieces
-
 -- A submission with a staging area counts that area as written, its descriptors and its batch records: the host writes
 -- both before it submits, the device reads the descriptors and writes the records (specification 341204, batch
 -- descriptor; that the host writes them anew for each submission is this project's choice).
-abbrev pub staged_writes : Span → List Fields → List Span
-staged_writes staging pieces = staging ∷ all_writes pieces
+abbrev pub staged_writes : {P : Type 0} → (P → List Span) → Span → List P → List Span
+staged_writes writes staging pieces = staging ∷ flat_map writes pieces
 
 -- what the host or the device reads
 abbrev pub host_read_spans : Host → List Span
@@ -59,5 +51,5 @@ with_staging at bytes pieces = OfHost (HostWrite at bytes) ∷ map Device pieces
 abbrev pub StagingIsWritten : Type 0
 StagingIsWritten =
     (at : ℕ) (bytes : List ℕ) (pieces : List Fields) →
-    (flat_map any_read_spans (with_staging at bytes pieces) ≡ all_reads pieces)
-    × (flat_map any_written_spans (with_staging at bytes pieces) ≡ staged_writes (span at (length bytes)) pieces)
+    (flat_map any_read_spans (with_staging at bytes pieces) ≡ flat_map read_spans pieces)
+    × (flat_map any_written_spans (with_staging at bytes pieces) ≡ staged_writes written_spans (span at (length bytes)) pieces)

@@ -1,12 +1,9 @@
 -- Groups one after another.
-use Rattle.std.proofs.Common.{◌≡◌, ℕ, zero, suc, ◌+◌, ◌-◌, ◌*◌, ◌<◌, ◌≤◌, Bool, true, false, cond, List, [], ◌∷◌, Option, Some, drop, get_or, length, map, take, set, slice_get, slice_set, refl, sym, ap, ◌∙◌, subst, add-one, arith}
-use Rattle.std.proofs.lemmas.List.{drop-map, get_or-set_other, get_or-set_same, length-map, length-take, take-map, take_all}
+use Rattle.std.proofs.Common.{◌≡◌, ℕ, zero, suc, ◌+◌, ◌-◌, ◌*◌, ◌<◌, ◌≤◌, Bool, true, false, cond, List, [], ◌∷◌, Option, Some, drop, get_or, length, take, set, slice_get, slice_set, refl, sym, ap, ◌∙◌, subst, add-one, arith}
+use Rattle.std.proofs.lemmas.List.{get_or-set_other, get_or-set_same, length-take, take_all}
 use Rattle.std.proofs.lemmas.List.Sums.{sum_by-take-le}
 use Rattle.std.proofs.lemmas.Option.{slice_get-get_or}
-use Rattle.dsa_descriptor.specs.declared.descriptor.Descriptor.{Descriptor}
 use Rattle.dsa_descriptor.specs.declared.span.Span.{Span}
-use Rattle.dsa_descriptor.specs.Descriptors.{fields}
-use Rattle.dsa_descriptor.specs.Fields.{Fields}
 use Rattle.dsa_descriptor.specs.Spans.{span}
 use Rattle.dsa_emission.specs.declared.place.Place.{Place}
 use Rattle.dsa_emission.specs.Emission.{batch_count, batched, batched_count, is_batch, place_after, place_of}
@@ -79,20 +76,18 @@ module _ (plan groups : Plan) (same : groups ≡ plan) (m : ℕ) (place : Place)
       let batches : place.batches + 1 ≡ batch_count (take (m + 1) plan) = ap (λ (b : Bool). place.batches + cond b 1 0) (sym is) ∙ ap (λ (p : Place). p.batches) next in
       (omega (arith, one, pieces, sum_by-take-le batched plan (m + 1)), omega (arith, batches, sum_by-take-le (λ (x : Group). cond (is_batch x) 1 0) plan (m + 1)))
 
-  pub own_pieces : (ds : List Descriptor) → map fields (take (place.start + length g - place.start) (drop place.start ds)) ≡ pieces_of plan (map fields ds) m
+  pub own_pieces : {P : Type 0} (ds : List P) → take (place.start + length g - place.start) (drop place.start ds) ≡ pieces_of plan ds m
   own_pieces ds =
       let size : place.start + length g - place.start ≡ length (group_at plan m) = omega (arith, ap length group_is) in
-      ap (λ (k : ℕ). map fields (take k (drop place.start ds))) size
-      ∙ sym (take-map fields (length (group_at plan m)) (drop place.start ds))
-      ∙ ap (λ (xs : List Fields). take (length (group_at plan m)) xs) (sym (drop-map fields place.start ds))
-      ∙ ap (λ (p : Place). take (length (group_at plan m)) (drop p.start (map fields ds))) placed
+      ap (λ (k : ℕ). take k (drop place.start ds)) size ∙ ap (λ (p : Place). take (length (group_at plan m)) (drop p.start ds)) placed
 
-  pub own_within : (ds : List Descriptor) → piece_count plan ≡ length (map fields ds) → place.start + length g ≤ length ds
-  own_within ds covers = omega (arith, group_placed.room, covers, length-map ds fields)
+  pub own_within : {P : Type 0} (ds : List P) → piece_count plan ≡ length ds → place.start + length g ≤ length ds
+  own_within ds covers = omega (arith, group_placed.room, covers)
 
-  pub own_room : (ds : List Descriptor) (room free : ℕ) (owner : Option Owner) (staging total : ℕ) → CanTakeGroups room free owner (map fields ds) plan staging → (own : List Descriptor) (spans : List Span) →
+  pub own_room :
+      {P : Type 0} (named : P → Owner) (ds : List P) (room free : ℕ) (owner : Option Owner) (staging total : ℕ) → CanTakeGroups named room free owner ds plan staging → (own : List P) (spans : List Span) →
       own ≡ take (place.start + length g - place.start) (drop place.start ds) → spans ≡ group_staging staging total place g → 3 * length own + length spans ≤ room
-  own_room ds room free owner staging total can own spans own_is spans_are =
+  own_room named ds room free owner staging total can own spans own_is spans_are =
       let few = can.spans m g group_got in
       let le : length (take (place.start + length g - place.start) (drop place.start ds)) ≤ length g = omega (arith, length-take (place.start + length g - place.start) (drop place.start ds)) in
       omega (arith, few, le, ap length own_is, ap length spans_are, staging_len staging total place g)
@@ -138,9 +133,9 @@ module _ (mid new : Table) (reads writes : List Span) (also : Slots) (owner : Op
   fewer_free = ap (λ (t : Table). free_count t.slots + 1) call.after ∙ one_less mid.slots submitted.slot call.taken call.slot.0
 
 -- what can be taken, and what is against it, by the same measures
-module _ (room room' free free' : ℕ) (owner owner' : Option Owner) (pieces : List Fields) (plan : Plan) (staging : ℕ) (room_is : room ≡ room') (free_is : free ≡ free') (owner_is : owner ≡ owner') where
-  pub can_same : CanTakeGroups room free owner pieces plan staging → CanTakeGroups room' free' owner' pieces plan staging
-  can_same can = subst (λ (x : ℕ × ℕ × Option Owner). CanTakeGroups x.0 x.1 x.2 pieces plan staging) (λ i. (room_is i, free_is i, owner_is i)) can
+module _ {P : Type 0} (named : P → Owner) (room room' free free' : ℕ) (owner owner' : Option Owner) (pieces : List P) (plan : Plan) (staging : ℕ) (room_is : room ≡ room') (free_is : free ≡ free') (owner_is : owner ≡ owner') where
+  pub can_same : CanTakeGroups named room free owner pieces plan staging → CanTakeGroups named room' free' owner' pieces plan staging
+  can_same can = subst (λ (x : ℕ × ℕ × Option Owner). CanTakeGroups named x.0 x.1 x.2 pieces plan staging) (λ i. (room_is i, free_is i, owner_is i)) can
 
-  pub fault_same : (fault : TrackFault) → IsGroupsFault room free owner pieces plan staging fault → IsGroupsFault room' free' owner' pieces plan staging fault
-  fault_same fault is = subst (λ (x : ℕ × ℕ × Option Owner). IsGroupsFault x.0 x.1 x.2 pieces plan staging fault) (λ i. (room_is i, free_is i, owner_is i)) is
+  pub fault_same : (fault : TrackFault) → IsGroupsFault named room free owner pieces plan staging fault → IsGroupsFault named room' free' owner' pieces plan staging fault
+  fault_same fault is = subst (λ (x : ℕ × ℕ × Option Owner). IsGroupsFault named x.0 x.1 x.2 pieces plan staging fault) (λ i. (room_is i, free_is i, owner_is i)) is

@@ -1,7 +1,6 @@
 -- The groups of planned lists, submitted one after another.
 use Rattle.std.proofs.Common.{◌≡◌, ℕ, zero, suc, ◌+◌, ◌<◌, ◌≤◌, inl, inr, List, [], ◌∷◌, ◌++◌, Option, Some, drop, length, map, take, slice_get, refl, sym, ap, ◌∙◌, subst, add-zero, drop-drop, arith}
 use Rattle.std.specs.Prelude.{flat_map, slice_index}
-use Rattle.std.proofs.lemmas.List.{drop-map, take-map}
 use Rattle.std.proofs.lemmas.List.Sums.{sum_by-cons}
 use Rattle.std.proofs.lemmas.Option.{same_Some}
 use Rattle.dsa_descriptor.specs.declared.descriptor.Descriptor.{Descriptor}
@@ -9,6 +8,7 @@ use Rattle.dsa_descriptor.specs.declared.span.Span.{Span}
 use Rattle.dsa_descriptor.specs.Descriptors.{fields}
 use Rattle.dsa_descriptor.specs.Fields.{Fields}
 use Rattle.dsa_descriptor.specs.Spans.{InSome}
+use Rattle.dsa_ranges.specs.Pieces.{reads_of, writes_of}
 use Rattle.dsa_ranges.specs.Ranges.{read_spans, written_spans}
 use Rattle.dsa_image.specs.declared.partial.Partial.{Partial}
 use Rattle.dsa_core.specs.DescriptorMachine.{descriptor_machine}
@@ -16,7 +16,6 @@ use Rattle.dsa_core.specs.Run.{Setup}
 use Rattle.dsa_core.proofs.Slots.{none_read}
 use Rattle.dsa_emission.specs.Emission.{batched_count, place_of}
 use Rattle.dsa_flight.specs.Planned.{PlannedList, all_groups, each_group, submission, submissions}
-use Rattle.dsa_flight.specs.Spans.{all_writes}
 use Rattle.dsa_flight.proofs.Groups.{groups_fit, groups_in_turn}
 use Rattle.dsa_flight.proofs.Spans.{descriptors_tell}
 use Rattle.dsa_settings.specs.Plan.{Plan, start_of}
@@ -39,18 +38,22 @@ tracked_groups_end_in_turn ps m start s acts can starts does rung ended succeed 
 -- the pieces of a group's submission are those of the group of its number
 group_pieces :
     (greatest_batch engines : ℕ) (plan : Plan) (list : List Descriptor) (k : ℕ) (a : Setup Fields) →
-    slice_get (submissions (each_group greatest_batch engines plan list)) k ≡ Some a → a.pieces ≡ pieces_of plan (map fields list) k
+    slice_get (submissions (each_group greatest_batch engines plan list)) k ≡ Some a → a.pieces ≡ map fields (pieces_of plan list k)
 group_pieces greatest_batch engines [] list k a h = absurd (none_read k a h)
 group_pieces greatest_batch engines (g ∷ plan) list zero a h =
     let first : PlannedList = record { greatest_batch = greatest_batch; plan = g ∷ []; list = take (length g) list; engines = engines } in
-    ap (λ (x : Setup Fields). x.pieces) (sym (same_Some (submission first) a h)) ∙ sym (take-map fields (length g) list)
+    ap (λ (x : Setup Fields). x.pieces) (sym (same_Some (submission first) a h))
 group_pieces greatest_batch engines (g ∷ plan) list (suc k) a h =
     let size : ℕ = length (group_at plan k) in
     let start : start_of (g ∷ plan) (suc k) ≡ length g + start_of plan k = sum_by-cons length g (take k plan) in
     group_pieces greatest_batch engines plan (drop (length g) list) k a h
-    ∙ ap (λ xs. take size (drop (start_of plan k) xs)) (sym (drop-map fields (length g) list))
-    ∙ ap (take size) (drop-drop (start_of plan k) (length g) (map fields list))
-    ∙ ap (λ n. take size (drop n (map fields list))) (sym start)
+    ∙ ap (λ xs. map fields (take size xs)) (drop-drop (start_of plan k) (length g) list)
+    ∙ ap (λ n. map fields (take size (drop n list))) (sym start)
+
+-- the spans of descriptors are those of their fields
+of_fields : (f : Fields → List Span) (ds : List Descriptor) → flat_map f (map fields ds) ≡ flat_map (λ d. f (fields d)) ds
+of_fields f [] = refl
+of_fields f (d ∷ ds) = λ i. f (fields d) ++ of_fields f ds i
 
 -- one act more
 one_act :
@@ -85,12 +88,15 @@ module _ (subs : List (Setup Fields)) (s : Moment Partial) (reads writes : ℕ �
 
 pub groups_are_submitted : GroupsAreSubmitted
 groups_are_submitted subs s p staging also owner slots new come turns =
-    submitted_in_turn subs s (group_reads p.plan (map fields p.list)) (group_writes staging p.plan (map fields p.list)) also owner slots (length p.plan) covers (length p.plan) new (omega arith) turns
+    submitted_in_turn subs s (group_reads reads_of p.plan p.list) (group_writes writes_of staging p.plan p.list) also owner slots (length p.plan) covers (length p.plan) new (omega arith) turns
   where
-    covers : (k : ℕ) (a : Setup Fields) → k < length p.plan → slice_get subs (s.submitted + k) ≡ Some a → Covers (flat_map read_spans a.pieces) (flat_map written_spans a.pieces) (group_reads p.plan (map fields p.list) k) (group_writes staging p.plan (map fields p.list) k)
+    covers :
+        (k : ℕ) (a : Setup Fields) → k < length p.plan → slice_get subs (s.submitted + k) ≡ Some a →
+        Covers (flat_map read_spans a.pieces) (flat_map written_spans a.pieces) (group_reads reads_of p.plan p.list k) (group_writes writes_of staging p.plan p.list k)
     covers k a lt is =
-        let pieces : a.pieces ≡ pieces_of p.plan (map fields p.list) k = group_pieces p.greatest_batch p.engines p.plan p.list k a (sym (come k lt) ∙ is) in
+        let own : List Descriptor = pieces_of p.plan p.list k in
+        let pieces : a.pieces ≡ map fields own = group_pieces p.greatest_batch p.engines p.plan p.list k a (sym (come k lt) ∙ is) in
         let staged : List Span = group_staging staging (batched_count p.plan) (place_of p.plan k) (group_at p.plan k) in (
-          λ x h. inl (subst (λ ps. InSome (flat_map read_spans ps) x) pieces h),
-          λ x h. (in_append staged (all_writes (pieces_of p.plan (map fields p.list) k)) x).1 (inr (subst (λ ps. InSome (flat_map written_spans ps) x) pieces h)),
+          λ x h. inl (subst (λ spans. InSome spans x) (ap (flat_map read_spans) pieces ∙ of_fields read_spans own) h),
+          λ x h. (in_append staged (flat_map writes_of own) x).1 (inr (subst (λ spans. InSome spans x) (ap (flat_map written_spans) pieces ∙ of_fields written_spans own) h)),
         )

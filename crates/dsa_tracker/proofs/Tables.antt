@@ -1,6 +1,5 @@
 -- What the table of a tracker is, by its words.
 use Rattle.std.proofs.Common.{◌≡◌, ◌≢◌, ◌↔◌, ℕ, ◌+◌, ◌*◌, ◌<◌, inl, inr, List, Option, Some, length, slice_set, refl, sym, ap, ◌∙◌, subst, arith}
-use Rattle.dsa_descriptor.specs.Fields.{Fields}
 use Rattle.dsa_descriptor.specs.declared.span.Span.{Span}
 use Rattle.dsa_descriptor.specs.Spans.{InSome}
 use Rattle.dsa_ranges.specs.Ranges.{SpansConflict}
@@ -159,12 +158,14 @@ refused_spans t s reads writes (OtherOwner piece) first h = absurd h
 refused_spans t s reads writes OtherPlan first h = absurd h
 refused_spans t s reads writes (FewSlots groups) first h = absurd h
 
-pub refused_list : (t : Table) (s : ℕ) (owner : Option Owner) (pieces : List Fields) (staging : Span) (f : TrackFault) → IsFirstFree t.slots s → IsListFault t.room owner pieces staging f → IsRefused t f (IsListFault t.room owner pieces staging f)
-refused_list t s owner pieces staging NoSlot first h = absurd h
-refused_list t s owner pieces staging (TooManySpans spans) first h = ((s, first), h)
-refused_list t s owner pieces staging (NotOutstanding slot) first h = absurd h
-refused_list t s owner pieces staging (Held slot) first h = absurd h
-refused_list t s owner pieces staging (Wrap span) first h = ((s, first), h)
-refused_list t s owner pieces staging (OtherOwner piece) first h = ((s, first), h)
-refused_list t s owner pieces staging OtherPlan first h = absurd h
-refused_list t s owner pieces staging (FewSlots groups) first h = absurd h
+pub refused_list :
+    {P : Type 0} (named : P → Owner) (t : Table) (s : ℕ) (owner : Option Owner) (pieces : List P) (staging : Span) (f : TrackFault) → IsFirstFree t.slots s →
+    IsListFault named t.room owner pieces staging f → IsRefused t f (IsListFault named t.room owner pieces staging f)
+refused_list named t s owner pieces staging NoSlot first h = absurd h
+refused_list named t s owner pieces staging (TooManySpans spans) first h = ((s, first), h)
+refused_list named t s owner pieces staging (NotOutstanding slot) first h = absurd h
+refused_list named t s owner pieces staging (Held slot) first h = absurd h
+refused_list named t s owner pieces staging (Wrap span) first h = ((s, first), h)
+refused_list named t s owner pieces staging (OtherOwner piece) first h = ((s, first), h)
+refused_list named t s owner pieces staging OtherPlan first h = absurd h
+refused_list named t s owner pieces staging (FewSlots groups) first h = absurd h

@@ -1,7 +1,7 @@
 -- What the calls of a tracker do, and when each refusal comes. (This project's choice.)
 use Rattle.std.specs.Prelude.{◌≡◌, ◌≢◌, ℕ, ◌+◌, ◌*◌, ◌<◌, ◌≤◌, ◌↔◌, max, List, [], ◌∷◌, ◌++◌, Option, Some, None, length, slice_get, slice_set}
+use Rattle.dsa_descriptor.specs.declared.descriptor.Descriptor.{Descriptor}
 use Rattle.dsa_descriptor.specs.declared.span.Span.{Span}
-use Rattle.dsa_descriptor.specs.Fields.{Fields}
 use Rattle.dsa_descriptor.specs.Spans.{InSome, IsAddressable}
 use Rattle.dsa_tracker.specs.declared.fault.TrackFault.{TrackFault}
 use Rattle.dsa_tracker.specs.declared.fault.TrackFault.TheVariants.{NoSlot, TooManySpans, NotOutstanding, Held, Wrap, OtherOwner, OtherPlan, FewSlots}
@@ -21,24 +21,24 @@ IsFirstPast spans i =
     (s : Span) × (slice_get spans i ≡ Some s) × (¬ IsAddressable s) × ((k : ℕ) (t : Span) → k < i → slice_get spans k ≡ Some t → IsAddressable t)
 
 -- the owner that a descriptor names
-abbrev pub owner_of : Fields → Owner
+abbrev pub owner_of : Descriptor → Owner
 owner_of d = record { pasid = d.pasid; privileged = d.privileged }
 
 -- the owner once these pieces came: the one that was known, else that of the first piece
-abbrev pub owner_with : Option Owner → List Fields → Option Owner
-owner_with (Some owner) pieces = Some owner
-owner_with None [] = None
-owner_with None (d ∷ ds) = Some (owner_of d)
+abbrev pub owner_with : {P : Type 0} → (P → Owner) → Option Owner → List P → Option Owner
+owner_with named (Some owner) pieces = Some owner
+owner_with named None [] = None
+owner_with named None (p ∷ ps) = Some (named p)
 
 -- each piece has this owner
-abbrev pub HaveOwner : Option Owner → List Fields → Type 0
-HaveOwner owner pieces = (k : ℕ) (d : Fields) → slice_get pieces k ≡ Some d → owner ≡ Some (owner_of d)
+abbrev pub HaveOwner : {P : Type 0} → (P → Owner) → Option Owner → List P → Type 0
+HaveOwner {P} named owner pieces = (k : ℕ) (p : P) → slice_get pieces k ≡ Some p → owner ≡ Some (named p)
 
 -- the piece of this index is the first with another one
-abbrev pub IsFirstOther : Option Owner → List Fields → ℕ → Type 0
-IsFirstOther owner pieces i =
-    (d : Fields) × (slice_get pieces i ≡ Some d) × (owner ≢ Some (owner_of d))
-    × ((k : ℕ) (e : Fields) → k < i → slice_get pieces k ≡ Some e → owner ≡ Some (owner_of e))
+abbrev pub IsFirstOther : {P : Type 0} → (P → Owner) → Option Owner → List P → ℕ → Type 0
+IsFirstOther {P} named owner pieces i =
+    (p : P) × (slice_get pieces i ≡ Some p) × (owner ≢ Some (named p))
+    × ((k : ℕ) (q : P) → k < i → slice_get pieces k ≡ Some q → owner ≡ Some (named q))
 
 -- a submission that reads and writes these spans can be kept
 abbrev pub CanKeep : ℕ → List Span → List Span → Type 0
@@ -61,20 +61,20 @@ abbrev pub most_spans : ℕ → ℕ
 most_spans pieces = 3 * pieces + 1
 
 -- a submission of these pieces with this staging area, and all of this owner, can be kept
-abbrev pub CanKeepList : ℕ → Option Owner → List Fields → Span → Type 0
-CanKeepList room owner pieces staging = (most_spans (length pieces) ≤ room) × IsAddressable staging × HaveOwner owner pieces
+abbrev pub CanKeepList : {P : Type 0} → (P → Owner) → ℕ → Option Owner → List P → Span → Type 0
+CanKeepList named room owner pieces staging = (most_spans (length pieces) ≤ room) × IsAddressable staging × HaveOwner named owner pieces
 
 -- why it cannot be kept; of its spans the staging area alone can go past 2^64
-abbrev pub IsListFault : ℕ → Option Owner → List Fields → Span → TrackFault → Type 0
-IsListFault room owner pieces staging NoSlot = ⊥
-IsListFault room owner pieces staging (TooManySpans count) = (count ≡ most_spans (length pieces)) × (room < count)
-IsListFault room owner pieces staging (NotOutstanding slot) = ⊥
-IsListFault room owner pieces staging (Held slot) = ⊥
-IsListFault room owner pieces staging (Wrap span) = (span ≡ 0) × (most_spans (length pieces) ≤ room) × (¬ IsAddressable staging)
-IsListFault room owner pieces staging (OtherOwner piece) =
-    (most_spans (length pieces) ≤ room) × IsAddressable staging × IsFirstOther owner pieces piece
-IsListFault room owner pieces staging OtherPlan = ⊥
-IsListFault room owner pieces staging (FewSlots count) = ⊥
+abbrev pub IsListFault : {P : Type 0} → (P → Owner) → ℕ → Option Owner → List P → Span → TrackFault → Type 0
+IsListFault named room owner pieces staging NoSlot = ⊥
+IsListFault named room owner pieces staging (TooManySpans count) = (count ≡ most_spans (length pieces)) × (room < count)
+IsListFault named room owner pieces staging (NotOutstanding slot) = ⊥
+IsListFault named room owner pieces staging (Held slot) = ⊥
+IsListFault named room owner pieces staging (Wrap span) = (span ≡ 0) × (most_spans (length pieces) ≤ room) × (¬ IsAddressable staging)
+IsListFault named room owner pieces staging (OtherOwner piece) =
+    (most_spans (length pieces) ≤ room) × IsAddressable staging × IsFirstOther named owner pieces piece
+IsListFault named room owner pieces staging OtherPlan = ⊥
+IsListFault named room owner pieces staging (FewSlots count) = ⊥
 
 -- the two have the same addresses
 abbrev pub SameAddresses : List Span → List Span → Type 0

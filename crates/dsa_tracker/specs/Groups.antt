@@ -1,16 +1,14 @@
 -- The groups of a plan as submissions, each of its own. (That each entry of a portal may be tracked by itself is this
 -- project's choice.)
-use Rattle.std.specs.Prelude.{◌≡◌, ◌≢◌, ℕ, zero, suc, ◌+◌, ◌*◌, ◌<◌, ◌≤◌, Bool, true, false, List, [], ◌∷◌, ◌++◌, Option, Some, None, count_by, drop, length, map, slice_get, slice_index, slice_index_or, take, if◌then◌else◌}
+use Rattle.std.specs.Prelude.{◌≡◌, ◌≢◌, ℕ, zero, suc, ◌+◌, ◌*◌, ◌<◌, ◌≤◌, Bool, true, false, List, [], ◌∷◌, ◌++◌, Option, Some, None, count_by, drop, flat_map, length, map, slice_get, slice_index, slice_index_or, take, if◌then◌else◌}
 use Rattle.dsa_descriptor.specs.declared.descriptor.Descriptor.{Descriptor}
 use Rattle.dsa_descriptor.specs.declared.span.Span.{Span}
 use Rattle.dsa_descriptor.specs.Descriptors.{fields}
-use Rattle.dsa_descriptor.specs.Fields.{Fields}
 use Rattle.dsa_descriptor.specs.Places.{u32_at, u64_at}
 use Rattle.dsa_descriptor.specs.Spans.{IsAddressable, span}
 use Rattle.dsa_emission.specs.declared.place.Place.{Place}
 use Rattle.dsa_emission.specs.Emission.{CanBeEmitted, batch_count, batched_count, is_batch, place_of, portal_entry, staging_span}
 use Rattle.dsa_emission.specs.EmissionFaults.{is_batch_entry}
-use Rattle.dsa_flight.specs.Spans.{all_reads, all_writes}
 use Rattle.dsa_settings.specs.Plan.{Group, Plan, piece_count}
 use Rattle.dsa_settings.specs.Settings.{Limits}
 use Rattle.dsa_tracker.specs.declared.fault.TrackFault.{TrackFault}
@@ -27,7 +25,7 @@ abbrev pub group_at : Plan → ℕ → Group
 group_at plan number = slice_index_or plan number []
 
 -- its pieces
-abbrev pub pieces_of : Plan → List Fields → ℕ → List Fields
+abbrev pub pieces_of : {P : Type 0} → Plan → List P → ℕ → List P
 pieces_of plan pieces number = take (length (group_at plan number)) (drop (place_of plan number).start pieces)
 
 -- its part of a staging area at this address: of a batch its descriptors and its completion record; of a lone descriptor
@@ -39,13 +37,13 @@ group_staging staging total place group =
     else []
 
 -- what the group of this number reads
-abbrev pub group_reads : Plan → List Fields → ℕ → List Span
-group_reads plan pieces number = all_reads (pieces_of plan pieces number)
+abbrev pub group_reads : {P : Type 0} → (P → List Span) → Plan → List P → ℕ → List Span
+group_reads reads plan pieces number = flat_map reads (pieces_of plan pieces number)
 
 -- and what it writes: its part of the staging area counts as written, since the host fills it
-abbrev pub group_writes : ℕ → Plan → List Fields → ℕ → List Span
-group_writes staging plan pieces number =
-    group_staging staging (batched_count plan) (place_of plan number) (group_at plan number) ++ all_writes (pieces_of plan pieces number)
+abbrev pub group_writes : {P : Type 0} → (P → List Span) → ℕ → Plan → List P → ℕ → List Span
+group_writes writes staging plan pieces number =
+    group_staging staging (batched_count plan) (place_of plan number) (group_at plan number) ++ flat_map writes (pieces_of plan pieces number)
 
 -- the staging bytes that an entry of a portal names: the descriptors of a batch, 64 bytes for each, at the address in bytes
 -- 16 to 23 and as many as bytes 32 to 35 say, and the 32 bytes of its completion record, at the address in bytes 8 to 15;
@@ -104,25 +102,25 @@ abbrev pub staged_area : ℕ → Plan → Span
 staged_area staging plan = span staging (64 * batched_count plan + 32 * batch_count plan)
 
 -- the groups of a plan can be taken, if so many slots are free
-pub record CanTakeGroups (room free : ℕ) (owner : Option Owner) (pieces : List Fields) (plan : Plan) (staging : ℕ) : Type 0 where
+pub record CanTakeGroups {P : Type 0} (named : P → Owner) (room free : ℕ) (owner : Option Owner) (pieces : List P) (plan : Plan) (staging : ℕ) : Type 0 where
   pub covers : piece_count plan ≡ length pieces
   pub slots : length plan ≤ free
   pub spans : HaveFewSpans room plan
   pub addressable : IsAddressable (staged_area staging plan)
-  pub owners : HaveOwner owner pieces
+  pub owners : HaveOwner named owner pieces
 
 -- the first reason why they cannot
-abbrev pub IsGroupsFault : ℕ → ℕ → Option Owner → List Fields → Plan → ℕ → TrackFault → Type 0
-IsGroupsFault room free owner pieces plan staging NoSlot = ⊥
-IsGroupsFault room free owner pieces plan staging (TooManySpans count) =
+abbrev pub IsGroupsFault : {P : Type 0} → (P → Owner) → ℕ → ℕ → Option Owner → List P → Plan → ℕ → TrackFault → Type 0
+IsGroupsFault named room free owner pieces plan staging NoSlot = ⊥
+IsGroupsFault named room free owner pieces plan staging (TooManySpans count) =
     (piece_count plan ≡ length pieces) × (length plan ≤ free) × IsFirstLarge room plan count
-IsGroupsFault room free owner pieces plan staging (NotOutstanding slot) = ⊥
-IsGroupsFault room free owner pieces plan staging (Held slot) = ⊥
-IsGroupsFault room free owner pieces plan staging (Wrap span) =
+IsGroupsFault named room free owner pieces plan staging (NotOutstanding slot) = ⊥
+IsGroupsFault named room free owner pieces plan staging (Held slot) = ⊥
+IsGroupsFault named room free owner pieces plan staging (Wrap span) =
     (piece_count plan ≡ length pieces) × (length plan ≤ free) × HaveFewSpans room plan × (span ≡ 0) × (¬ IsAddressable (staged_area staging plan))
-IsGroupsFault room free owner pieces plan staging (OtherOwner piece) =
+IsGroupsFault named room free owner pieces plan staging (OtherOwner piece) =
     (piece_count plan ≡ length pieces) × (length plan ≤ free) × HaveFewSpans room plan × IsAddressable (staged_area staging plan)
-    × IsFirstOther owner pieces piece
-IsGroupsFault room free owner pieces plan staging OtherPlan = piece_count plan ≢ length pieces
-IsGroupsFault room free owner pieces plan staging (FewSlots count) =
+    × IsFirstOther named owner pieces piece
+IsGroupsFault named room free owner pieces plan staging OtherPlan = piece_count plan ≢ length pieces
+IsGroupsFault named room free owner pieces plan staging (FewSlots count) =
     (piece_count plan ≡ length pieces) × (count ≡ length plan) × (free < count)

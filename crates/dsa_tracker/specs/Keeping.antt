@@ -1,21 +1,20 @@
 -- What the stores keep of a list. Private clauses alone cite these.
-use Rattle.std.specs.Prelude.{◌≡◌, ◌≢◌, ℕ, List, [], ◌∷◌, flat_map}
-use Rattle.dsa_descriptor.specs.Data.{sources, targets, record_span}
-use Rattle.dsa_descriptor.specs.Fields.{Fields}
+use Rattle.std.specs.Prelude.{◌≡◌, ◌≢◌, ℕ, List, drop, flat_map, take}
+use Rattle.dsa_descriptor.specs.declared.span.Span.{Span}
 use Rattle.dsa_descriptor.specs.Spans.{InSome}
 use Rattle.dsa_tracker.specs.Kept.{store_at}
 
 -- some piece reads the address
-abbrev pub InSources : List Fields → ℕ → Type 0
-InSources pieces a = InSome (flat_map (λ d. sources d.op d.size) pieces) a
+abbrev pub InSources : {P : Type 0} → (P → List Span) → List P → ℕ → Type 0
+InSources reads pieces a = InSome (flat_map reads pieces) a
 
--- some piece has the address in its destinations
-abbrev pub InTargets : List Fields → ℕ → Type 0
-InTargets pieces a = InSome (flat_map (λ d. targets d.op d.size) pieces) a
+-- some piece has the address in its destinations: what it writes after its completion record
+abbrev pub InTargets : {P : Type 0} → (P → List Span) → List P → ℕ → Type 0
+InTargets writes pieces a = InSome (flat_map (λ p. drop 1 (writes p)) pieces) a
 
 -- some piece has it in its completion record
-abbrev pub InRecord : List Fields → ℕ → Type 0
-InRecord pieces a = InSome (flat_map (λ d. record_span d.record_at ∷ []) pieces) a
+abbrev pub InRecord : {P : Type 0} → (P → List Span) → List P → ℕ → Type 0
+InRecord writes pieces a = InSome (flat_map (λ p. take 1 (writes p)) pieces) a
 
 -- all stores but that of this place are the same
 abbrev pub AreOtherStores : ℕ → ℕ → List ℕ → List ℕ → Type 0

@@ -1,8 +1,8 @@
 -- Planned lists, tracked by their groups. (That each entry of a portal may be a submission of its own is this project's
 -- choice.)
-use Rattle.std.specs.Prelude.{◌≡◌, ℕ, ◌+◌, ◌<◌, IsTrue, List, Option, length, map, slice_get}
-use Rattle.dsa_descriptor.specs.Descriptors.{fields}
+use Rattle.std.specs.Prelude.{◌≡◌, ℕ, ◌+◌, ◌<◌, IsTrue, List, Option, length, slice_get}
 use Rattle.dsa_descriptor.specs.Fields.{Fields}
+use Rattle.dsa_ranges.specs.Pieces.{reads_of, writes_of}
 use Rattle.dsa_ranges.specs.Ranges.{read_spans, written_spans}
 use Rattle.dsa_image.specs.declared.partial.Partial.{Partial}
 use Rattle.dsa_image.specs.Memory.{Memory}
@@ -25,7 +25,7 @@ abbrev pub GroupsAreSubmitted : Type 0
 GroupsAreSubmitted =
     (subs : List (Setup Fields)) (s : Moment Partial) (p : PlannedList) (staging : ℕ) (also : Slots) (owner : Option Owner) (slots : List ℕ) (new : Table) →
     ComeNext subs s.submitted p →
-    SubmitsInTurn s.table (group_reads p.plan (map fields p.list)) (group_writes staging p.plan (map fields p.list)) also owner slots (length p.plan) new →
+    SubmitsInTurn s.table (group_reads reads_of p.plan p.list) (group_writes writes_of staging p.plan p.list) also owner slots (length p.plan) new →
     (acts : List Act) × (number : ℕ → ℕ)
     × DoesAll descriptor_machine read_spans written_spans subs s acts
     (record { table = new; submitted = s.submitted + length p.plan; number = number; rung = s.rung; flight = s.flight })

@@ -1,7 +1,6 @@
 //! The groups of a plan as submissions: where their parts are, and what is against them.
 
-ghost use Rattle.std.specs.Prelude.{◌≡◌, ◌≢◌, ◌+◌, ◌*◌, ◌^◌, ◌<◌, ◌≤◌, MatchOption, MatchResult, length, map, slice_range};
-ghost use Rattle.dsa_descriptor.specs.Descriptors.{fields};
+ghost use Rattle.std.specs.Prelude.{◌≡◌, ◌≢◌, ◌+◌, ◌*◌, ◌^◌, ◌<◌, ◌≤◌, MatchOption, MatchResult, length, slice_range};
 ghost use Rattle.dsa_emission.specs.Emission.{place_after, place_of};
 ghost use Rattle.dsa_settings.specs.Plan.{piece_count};
 ghost use Rattle.dsa_tracker.specs.Before.{place_by};
@@ -10,8 +9,9 @@ ghost use Rattle.dsa_tracker.specs.Groups.{CanTakeGroups, HaveFewSpans, IsFirstL
 
 use crate::fault::TrackFault;
 use crate::owner::{Owner, first_other};
+use crate::tracked::Tracked;
 use arrayvec::ArrayVec;
-use dsa_descriptor::{Descriptor, Span};
+use dsa_descriptor::Span;
 use dsa_settings::{Group, Plan};
 
 /// What comes before a group of a plan.
@@ -82,19 +82,20 @@ fn first_large(room: u32, groups: &[Group]) -> Option<usize>
 
 /// What comes before the end of the plan's groups, if they can be taken while so many slots are
 /// free.
-pub(crate) fn check_groups(
+pub(crate) fn check_groups<P: Tracked>(
     room: u32,
     free: usize,
     owner: Option<Owner>,
-    pieces: &[Descriptor],
+    pieces: &[P],
     plan: &Plan,
     staging: u64,
 ) -> Result<Before, TrackFault>
     ensures { MatchResult result
-        (λ end. CanTakeGroups room free owner (map fields pieces.now) plan.now staging ×
+        (λ end. CanTakeGroups P.owner room free owner pieces.now plan.now staging ×
         (place_by end ≡ place_of plan.now (length plan.now)))
-        (IsGroupsFault room free owner (map fields pieces.now) plan.now staging) }
+        (IsGroupsFault P.owner room free owner pieces.now plan.now staging) }
 {
+    P::are_few(pieces);
     let groups = plan.groups();
     let Some(end) = end_of(groups, pieces.len()) else {
         return Err(TrackFault::OtherPlan);
@@ -119,11 +120,7 @@ pub(crate) fn check_groups(
 }
 
 /// The group's pieces.
-pub(crate) fn own_pieces<'a>(
-    pieces: &'a [Descriptor],
-    before: Before,
-    group: &Group,
-) -> &'a [Descriptor]
+pub(crate) fn own_pieces<'a, P: Tracked>(pieces: &'a [P], before: Before, group: &Group) -> &'a [P]
     requires { before.start + length group.now ≤ length pieces.now }
     ensures { result.now ≡
         slice_range pieces.now before.start (before.start + length group.now) }

@@ -18,6 +18,7 @@ mod owner;
 mod parts;
 mod slots;
 mod submitted;
+mod tracked;
 mod units;
 pub mod words;
 
@@ -26,3 +27,4 @@ pub use laws::{groups_end_in_turn, groups_stage_what_entries_name, tracker_ends_
 pub use owner::Owner;
 pub use slots::Slots;
 pub use submitted::{Retired, Submitted};
+pub use tracked::Tracked;

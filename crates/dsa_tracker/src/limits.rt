@@ -1,12 +1,12 @@
 //! What a tracker can keep.
 
-ghost use Rattle.std.specs.Prelude.{◌≡◌, ◌++◌, MatchOption, map};
-ghost use Rattle.dsa_descriptor.specs.Descriptors.{fields};
+ghost use Rattle.std.specs.Prelude.{◌≡◌, ◌++◌, MatchOption};
 ghost use Rattle.dsa_tracker.specs.Calls.{AreAddressable, CanKeep, CanKeepList, IsFirstPast, IsListFault, IsSpanFault};
 
 use crate::fault::TrackFault;
 use crate::owner::{Owner, first_other};
-use dsa_descriptor::{Descriptor, Span};
+use crate::tracked::Tracked;
+use dsa_descriptor::Span;
 
 /// The first span that goes past 2^64.
 fn first_past(spans: &[Span]) -> Option<usize>
@@ -37,15 +37,16 @@ pub(crate) fn span_fault(room: u32, reads: &[Span], writes: &[Span]) -> Option<T
 }
 
 /// Why it is impossible to keep a submission of these pieces with this staging area.
-pub(crate) fn list_fault(
+pub(crate) fn list_fault<P: Tracked>(
     room: u32,
     owner: Option<Owner>,
-    pieces: &[Descriptor],
+    pieces: &[P],
     staging: Span,
 ) -> Option<TrackFault>
-    ensures { MatchOption result (CanKeepList room owner (map fields pieces.now) staging)
-        (IsListFault room owner (map fields pieces.now) staging) }
+    ensures { MatchOption result (CanKeepList P.owner room owner pieces.now staging)
+        (IsListFault P.owner room owner pieces.now staging) }
 {
+    P::are_few(pieces);
     let count = 3 * pieces.len() + 1;
     if count > room as usize {
         return Some(TrackFault::TooManySpans(count));

@@ -1,10 +1,9 @@
 //! Owners of submissions.
 
-ghost use Rattle.std.specs.Prelude.{◌≡◌, ◌↔◌, IsTrue, MatchOption, map};
-ghost use Rattle.dsa_descriptor.specs.Descriptors.{fields};
-ghost use Rattle.dsa_tracker.specs.Calls.{HaveOwner, IsFirstOther, owner_of, owner_with};
+ghost use Rattle.std.specs.Prelude.{◌≡◌, ◌↔◌, IsTrue, MatchOption};
+ghost use Rattle.dsa_tracker.specs.Calls.{HaveOwner, IsFirstOther, owner_with};
 
-use dsa_descriptor::Descriptor;
+use crate::tracked::Tracked;
 
 /// Whose addresses a submission names.
 #[derive(Clone, Copy, PartialEq, Eq)]
@@ -15,43 +14,33 @@ pub struct Owner {
     pub privileged: bool,
 }
 
-/// The owner that the descriptor names.
-fn named_owner(descriptor: &Descriptor) -> Owner
-    ensures { result ≡ owner_of (fields descriptor.now) }
-{
-    Owner {
-        pasid: descriptor.pasid,
-        privileged: descriptor.privileged,
-    }
-}
-
 /// The owner once these pieces came: the one that was known, else that of the first piece.
-pub(crate) fn expected_owner(known: Option<Owner>, pieces: &[Descriptor]) -> Option<Owner>
-    ensures { result ≡ owner_with known (map fields pieces.now) }
+pub(crate) fn expected_owner<P: Tracked>(known: Option<Owner>, pieces: &[P]) -> Option<Owner>
+    ensures { result ≡ owner_with P.owner known pieces.now }
 {
     match known {
         Some(owner) => Some(owner),
         None => match pieces {
-            [first, ..] => Some(named_owner(first)),
+            [first, ..] => Some(first.named_owner()),
             [] => None,
         },
     }
 }
 
-/// Whether the descriptor names this owner.
-fn is_of(owner: Option<Owner>, descriptor: &Descriptor) -> bool
-    ensures { IsTrue result ↔ (owner ≡ Some (owner_of (fields descriptor.now))) }
+/// Whether the piece names this owner.
+fn is_of<P: Tracked>(owner: Option<Owner>, piece: &P) -> bool
+    ensures { IsTrue result ↔ (owner ≡ Some (P.owner piece.now)) }
 {
     match owner {
-        Some(owner) => owner == named_owner(descriptor),
+        Some(owner) => owner == piece.named_owner(),
         None => false,
     }
 }
 
 /// The first piece with another owner.
-pub(crate) fn first_other(owner: Option<Owner>, pieces: &[Descriptor]) -> Option<usize>
-    ensures { MatchOption result (HaveOwner owner (map fields pieces.now))
-        (IsFirstOther owner (map fields pieces.now)) }
+pub(crate) fn first_other<P: Tracked>(owner: Option<Owner>, pieces: &[P]) -> Option<usize>
+    ensures { MatchOption result (HaveOwner P.owner owner pieces.now)
+        (IsFirstOther P.owner owner pieces.now) }
 {
     for (index, piece) in pieces.iter().enumerate() {
         if !is_of(owner, piece) {

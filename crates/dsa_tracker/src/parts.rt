@@ -1,8 +1,6 @@
 //! The parts of a tracker in an array of words, handed to what works on a tracker's words.
 
-ghost use Rattle.std.specs.Prelude.{◌≡◌, ℕ, ◌+◌, ◌*◌, ◌<◌, ◌≤◌, ◌++◌, MatchOption, Some, flat_map, length, map, slice_set};
-ghost use Rattle.dsa_descriptor.specs.Descriptors.{fields};
-ghost use Rattle.dsa_ranges.specs.Ranges.{read_spans, written_spans};
+ghost use Rattle.std.specs.Prelude.{◌≡◌, ℕ, ◌+◌, ◌*◌, ◌<◌, ◌≤◌, ◌++◌, MatchOption, Some, flat_map, length, slice_set};
 ghost use Rattle.dsa_tracker.specs.Calls.{AreAddressable, CanKeep, Releases, SameAddresses};
 ghost use Rattle.dsa_tracker.specs.Finding.{reads_store, writes_store};
 ghost use Rattle.dsa_tracker.specs.Head.{IsHeadOf, with_board};
@@ -20,7 +18,8 @@ use crate::keeping::{keep_reads, keep_spans, keep_writes};
 use crate::owner::Owner;
 use crate::slots::Slots;
 use crate::submitted::Retired;
-use dsa_descriptor::{Descriptor, Span};
+use crate::tracked::Tracked;
+use dsa_descriptor::Span;
 
 /// Keeps just these spans in the stores of the free slot.
 pub(crate) fn keep_spans_in(
@@ -54,11 +53,11 @@ pub(crate) fn keep_spans_in(
 
 /// Keeps just what these pieces read, and what they write and their staging bytes, in the stores of
 /// the free slot.
-pub(crate) fn keep_list_in(
+pub(crate) fn keep_list_in<P: Tracked>(
     words: &mut [u64],
     head: Head,
     slot: u32,
-    pieces: &[Descriptor],
+    pieces: &[P],
     staged: &[Span],
 )
     requires shaped { IsShapedIn words.old }
@@ -73,10 +72,10 @@ pub(crate) fn keep_list_in(
     ensures state { IsStateIn words.old head.shape → IsStateIn words.new head.shape }
     ensures reads { SameAddresses
         (kept (reads_store head.shape.width (stores_in words.new) slot))
-        (flat_map read_spans (map fields pieces.now)) }
+        (flat_map P.reads pieces.now) }
     ensures writes { SameAddresses
         (kept (writes_store head.shape.width (stores_in words.new) slot))
-        (staged.now ++ flat_map written_spans (map fields pieces.now)) }
+        (staged.now ++ flat_map P.writes pieces.now) }
 {
     let width = head.shape.width;
     let (_, body) = words.split_at_mut(HEAD_LEN);

@@ -1,10 +1,9 @@
 //! A tracker in an array of words that the caller holds. Whatever the words are, each call is safe,
 //! and a refusal leaves them as they were. The answers are a tracker's if the words are.
 
-ghost use Rattle.std.specs.Prelude.{◌≡◌, ◌↔◌, ℕ, ◌+◌, ◌*◌, ◌<◌, ◌≤◌, ◌⊎◌, ◌++◌, None, IfOk, IsTrue, MatchResult, length, map, min, replicate, slice_get};
-ghost use Rattle.dsa_descriptor.specs.Descriptors.{fields};
+ghost use Rattle.std.specs.Prelude.{◌≡◌, ◌↔◌, ℕ, ◌+◌, ◌*◌, ◌<◌, ◌≤◌, ◌⊎◌, ◌++◌, None, IfOk, IsTrue, MatchResult, flat_map, length, min, replicate, slice_get};
 ghost use Rattle.dsa_emission.specs.Emission.{batched_count};
-ghost use Rattle.dsa_flight.specs.Spans.{all_reads, all_writes, staged_writes};
+ghost use Rattle.dsa_flight.specs.Spans.{staged_writes};
 ghost use Rattle.dsa_tracker.specs.Calls.{AreAddressable, CanKeep, CanKeepList, IsCompleteFault, IsListFault, IsRefused, IsSpanFault, IsWithdrawFault, Retires, Submits, owner_with};
 ghost use Rattle.dsa_tracker.specs.Groups.{CanTakeGroups, IsGroupsFault, SubmitsInTurn, free_count, group_reads, group_writes};
 ghost use Rattle.dsa_tracker.specs.Head.{IsHeadOf};
@@ -22,7 +21,8 @@ use crate::owner::{Owner, expected_owner};
 use crate::parts::{conflicts_in, keep_list_in, keep_spans_in, release_in, take_in, waits_at_in};
 use crate::slots::Slots;
 use crate::submitted::{Retired, Submitted};
-use dsa_descriptor::{Descriptor, Span};
+use crate::tracked::Tracked;
+use dsa_descriptor::Span;
 use dsa_settings::Plan;
 use std::alloc::{AllocError, Global};
 
@@ -155,21 +155,20 @@ pub fn submit_spans(
 /// # Errors
 /// The first cause: the words are no tracker's, no slot is free, there are too many pieces, the staging area goes past
 /// 2^64, a piece has another owner than the first piece that came.
-pub fn submit(
+pub fn submit<P: Tracked>(
     words: &mut [u64],
-    pieces: &[Descriptor],
+    pieces: &[P],
     staging: Span,
     also: Slots,
 ) -> Result<Submitted, WordsFault>
-    ensures { let list = map fields pieces.now in
-        let owner = owner_with (owner_in words.old) list in
+    ensures { let owner = owner_with P.owner (owner_in words.old) pieces.now in
         MatchResult result
         (λ s. IsShapedIn words.old × IsShapedIn words.new ×
-        CanKeepList (room_in words.old) owner list staging × (IsTracker words.old →
-        IsTracker words.new × Submits (table_in words.old) (all_reads list)
-        (staged_writes staging list) also owner s (table_in words.new)))
+        CanKeepList P.owner (room_in words.old) owner pieces.now staging × (IsTracker words.old →
+        IsTracker words.new × Submits (table_in words.old) (flat_map P.reads pieces.now)
+        (staged_writes P.writes staging pieces.now) also owner s (table_in words.new)))
         (λ f. RefusesIn words.old f (λ g. IsRefused (table_in words.old) g
-        (IsListFault (room_in words.old) owner list staging g)) ×
+        (IsListFault P.owner (room_in words.old) owner pieces.now staging g)) ×
         (words.new ≡ words.old)) }
 {
     let Some(head) = read_head(words) else {
@@ -186,11 +185,11 @@ pub fn submit(
 }
 
 /// Takes the first free slot for these pieces and these staging bytes, and has this owner then.
-fn take_list(
+fn take_list<P: Tracked>(
     words: &mut [u64],
     head: Head,
     slot: u32,
-    pieces: &[Descriptor],
+    pieces: &[P],
     staged: &[Span],
     also: Slots,
     owner: Option<Owner>,
@@ -206,9 +205,9 @@ fn take_list(
     ensures shaped { IsShapedIn words.new }
     ensures room { room_in words.new ≡ room_in words.old }
     ensures count { free_count (shown_in words.new) + 1 ≡ free_count (shown_in words.old) }
-    ensures call { let list = map fields pieces.now in IsTracker words.old → IsTracker words.new ×
-        Submits (table_in words.old) (all_reads list) (staged.now ++ all_writes list) also owner
-        result (table_in words.new) }
+    ensures call { IsTracker words.old → IsTracker words.new ×
+        Submits (table_in words.old) (flat_map P.reads pieces.now)
+        (staged.now ++ flat_map P.writes pieces.now) also owner result (table_in words.new) }
 {
     keep_list_in(words, head, slot, pieces, staged);
     let waits = take_in(words, head, slot, also, owner);
@@ -216,9 +215,9 @@ fn take_list(
 }
 
 /// Takes the groups of a plan that can be taken, `total` pieces of which are in batches.
-fn take_groups(
+fn take_groups<P: Tracked>(
     words: &mut [u64],
-    pieces: &[Descriptor],
+    pieces: &[P],
     plan: &Plan,
     staging: u64,
     total: usize,
@@ -226,18 +225,20 @@ fn take_groups(
     slots: &mut [u32],
 )
     requires shaped { IsShapedIn words.old }
-    requires can { let list = map fields pieces.now in CanTakeGroups (room_in words.old)
+    requires can { CanTakeGroups P.owner (room_in words.old)
         (min (free_count (shown_in words.old)) (length slots.old))
-        (owner_with (owner_in words.old) list) list plan.now staging }
+        (owner_with P.owner (owner_in words.old) pieces.now) pieces.now plan.now staging }
     requires total { total ≡ batched_count plan.now }
     ensures shaped { IsShapedIn words.new }
-    ensures taken { let list = map fields pieces.now in IsTracker words.old → IsTracker words.new ×
-        SubmitsInTurn (table_in words.old) (group_reads plan.now list)
-        (group_writes staging plan.now list) also (owner_with (owner_in words.old) list)
-        slots.new (length plan.now) (table_in words.new) }
+    ensures taken { IsTracker words.old → IsTracker words.new ×
+        SubmitsInTurn (table_in words.old) (group_reads P.reads plan.now pieces.now)
+        (group_writes P.writes staging plan.now pieces.now) also
+        (owner_with P.owner (owner_in words.old) pieces.now) slots.new (length plan.now)
+        (table_in words.new) }
     ensures rest { (k : ℕ) →
         length plan.now ≤ k → slice_get slots.new k ≡ slice_get slots.old k }
 {
+    P::are_few(pieces);
     let Some(first) = read_head(words) else {
         return;
     };
@@ -267,25 +268,25 @@ fn take_groups(
 /// The first cause: the words are no tracker's, the plan is of another number of pieces, it has more groups than slots
 /// are free or have a place in `slots`, a group may have too many spans, the staging bytes go past 2^64, a piece has
 /// another owner than the first piece that came.
-pub fn submit_groups(
+pub fn submit_groups<P: Tracked>(
     words: &mut [u64],
-    pieces: &[Descriptor],
+    pieces: &[P],
     plan: &Plan,
     staging: u64,
     also: Slots,
     slots: &mut [u32],
 ) -> Result<(), WordsFault>
-    ensures answer { let list = map fields pieces.now in
-        let owner = owner_with (owner_in words.old) list in
+    ensures answer { let owner = owner_with P.owner (owner_in words.old) pieces.now in
         let free = min (free_count (shown_in words.old)) (length slots.old) in
         MatchResult result
         (λ _. IsShapedIn words.old × IsShapedIn words.new ×
-        CanTakeGroups (room_in words.old) free owner list plan.now staging ×
+        CanTakeGroups P.owner (room_in words.old) free owner pieces.now plan.now staging ×
         (IsTracker words.old → IsTracker words.new × SubmitsInTurn (table_in words.old)
-        (group_reads plan.now list) (group_writes staging plan.now list) also owner slots.new
+        (group_reads P.reads plan.now pieces.now)
+        (group_writes P.writes staging plan.now pieces.now) also owner slots.new
         (length plan.now) (table_in words.new)))
         (λ f. RefusesIn words.old f
-        (IsGroupsFault (room_in words.old) free owner list plan.now staging) ×
+        (IsGroupsFault P.owner (room_in words.old) free owner pieces.now plan.now staging) ×
         (words.new ≡ words.old) × (slots.new ≡ slots.old)) }
     ensures rest { (k : ℕ) →
         length plan.now ≤ k → slice_get slots.new k ≡ slice_get slots.old k }

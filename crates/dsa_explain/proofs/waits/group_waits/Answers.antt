@@ -1,7 +1,6 @@
-use Rattle.std.proofs.Common.{◌≡◌, List, ℕ, length, map, sym, ap, ◌∙◌, subst, arith}
+use Rattle.std.proofs.Common.{◌≡◌, List, ℕ, length, sym, ap, ◌∙◌, subst, arith}
 use Rattle.std.specs.Vec.{with_items}
 use Rattle.std.proofs.lemmas.List.{with_items_is}
-use Rattle.dsa_descriptor.specs.Descriptors.{fields}
 use Rattle.dsa_tracker.specs.Words.{IsTracker, table_in}
 use Rattle.dsa_explain.specs.Waits.{AreSets, free_table}
 use Rattle.dsa_explain.proofs.Waited.{waits_told}
@@ -21,7 +20,7 @@ returns c =
     let is : c.deref.result.now ≡ c.submit_groups.new.words =
     c.deref.ensures.value ∙ with_items_is c.in_ok-tracker.tracker c.submit_groups.new.words (c.submit_groups.auto.words ∙ c.deref_mut.ensures.len) in
     waits_told (table_in c.deref_mut.result.now) (table_in c.submit_groups.new.words) c.submit_groups.new.slots (with_items c.in_ok-slots.slots c.submit_groups.new.slots).items
-    c.deref-2.result.now c.in_ok-sets.sets.items c.args.plan.now (map fields c.args.pieces.now) c.args.staging free (c.in-Ok.ensures.answer.3 tracked).1
+    c.deref-2.result.now c.in_ok-sets.sets.items c.args.plan.now c.args.pieces.now c.args.staging free (c.in-Ok.ensures.answer.3 tracked).1
     (with_items_is c.in_ok-slots.slots c.submit_groups.new.slots (c.submit_groups.auto.slots ∙ c.deref_mut-2.ensures.len)) c.deref-2.ensures.value
     (omega (arith, c.submit_groups.auto.slots, c.deref_mut-2.ensures.len, c.in_ok-slots.ensures.len, ap length c.groups.ensures))
     (subst (λ (words : List ℕ). AreSets (table_in words) c.deref-2.result.now c.in_ok-sets.sets.items) is c.in_ok-sets.ensures)

@@ -1,20 +1,19 @@
-use Rattle.std.proofs.Common.{◌↔◌, ◌⊎◌, [], ◌∷◌, subst, arith}
-use Rattle.dsa_descriptor.specs.Data.{record_span}
-use Rattle.dsa_descriptor.specs.Spans.{InSome, InSpan}
+use Rattle.std.proofs.Common.{◌↔◌, ◌⊎◌, List, sym, take, subst, arith}
+use Rattle.dsa_descriptor.specs.Spans.{InSome}
 use Rattle.dsa_descriptor.specs.declared.span.Span.{Span}
 use Rattle.dsa_tracker.specs.Kept.{kept}
 use Rattle.dsa_tracker.proofs.Pieces.{all_pieces, more_pieces, one_span}
 use Rattle.dsa_tracker.proofs.keeping.append_records.Goals as goal
 
 pub loop-piece-preserved : goal.loop-piece-preserved
-loop-piece-preserved c =
+loop-piece-preserved g c =
     record {
-      spans = λ a. more_pieces (λ d. record_span d.record_at ∷ []) c.args.pieces.now c.loop-piece.piece-index c.piece-item.result a (InSome (kept c.args.store.now) a) (InSome (kept c.loop-piece.store) a) (InSome (kept c.push.new.store) a)
+      spans = λ a. more_pieces (λ p. take 1 (g.P.Touching.writes p)) c.args.pieces.now c.loop-piece.piece-index c.piece-item.result a (InSome (kept c.args.store.now) a) (InSome (kept c.loop-piece.store) a) (InSome (kept c.push.new.store) a)
           c.loop-piece-test.true c.piece-item.is (c.loop-piece.invariant.spans a)
-          (one_span _ a (InSome (kept c.loop-piece.store) a) (InSome (kept c.push.new.store) a)
-          (subst (λ (s : Span). InSome (kept c.push.new.store) a ↔ (InSome (kept c.loop-piece.store) a ⊎ InSpan s a)) c.record_span.ensures (c.push.ensures.spans a)));
+          (subst (λ (xs : List Span). InSome (kept c.push.new.store) a ↔ (InSome (kept c.loop-piece.store) a ⊎ InSome xs a)) (sym c.completion_record.ensures.value)
+          (one_span c.completion_record.result a (InSome (kept c.loop-piece.store) a) (InSome (kept c.push.new.store) a) (c.push.ensures.spans a)));
       count = omega (arith, c.loop-piece.invariant.count, c.push.ensures.count);
     }
 
 pub returns-clause-spans : goal.returns-clause-spans
-returns-clause-spans c = λ a. all_pieces (λ d. record_span d.record_at ∷ []) c.args.pieces.now c.loop-piece.piece-index a (InSome (kept c.args.store.now) a) (InSome (kept c.loop-piece.store) a) c.loop-piece-test.false (c.loop-piece.invariant.spans a)
+returns-clause-spans g c = λ a. all_pieces (λ p. take 1 (g.P.Touching.writes p)) c.args.pieces.now c.loop-piece.piece-index a (InSome (kept c.args.store.now) a) (InSome (kept c.loop-piece.store) a) c.loop-piece-test.false (c.loop-piece.invariant.spans a)

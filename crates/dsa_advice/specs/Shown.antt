@@ -1,7 +1,6 @@
 -- What explaining a plan of pieces answers (this project's choice).
-use Rattle.std.specs.Prelude.{◌≡◌, ◌+◌, ◌-◌, ◌<◌, ◌≤◌, ℕ, nat_lt, Bool, List, [], ◌∷◌, ◌++◌, codes, decimal, length, map, string_bytes, Option, Err, if◌then◌else◌}
+use Rattle.std.specs.Prelude.{◌≡◌, ◌+◌, ◌-◌, ◌<◌, ◌≤◌, ℕ, nat_lt, Bool, List, [], ◌∷◌, ◌++◌, codes, decimal, length, string_bytes, Option, Err, if◌then◌else◌}
 use Rattle.dsa_descriptor.specs.declared.descriptor.Descriptor.{Descriptor}
-use Rattle.dsa_descriptor.specs.Descriptors.{fields}
 use Rattle.dsa_sentences.specs.declared.causes.TextCause.TheVariants.{Picture as Large}
 use Rattle.dsa_sentences.specs.Endings.{ending_of}
 use Rattle.dsa_plan.specs.Plan.{Plan}
@@ -83,7 +82,7 @@ pub record TellsWaits (s : Limits) (plan : Plan) (pieces : List Descriptor) (bar
   pub can : CanBeExplained s pieces barriers plan
   pub slots : List ℕ
   pub sets : List Slots
-  pub are : AreWaits s.staging plan (map fields pieces) slots sets
+  pub are : AreWaits s.staging plan pieces slots sets
   pub words : text ≡ waits_words slots sets
 
 -- the plan in a form
@@ -110,7 +109,7 @@ pub data AnswersPlan (s : Limits) (plan : Plan) (pieces : List Descriptor) (barr
   is_unfit : (fault : ExplainFault) → Explains s (detail_of form) pieces barriers plan (Err fault) → IsRefusal (explain_cause fault) a → AnswersPlan s plan pieces barriers labels least form a
   is_too_large : (range : PieceRange) → form ≡ Picture range → CanBeExplained s pieces barriers plan → most_rows < drawn_groups range.first range.last plan → a.status ≡ 1
       → string_bytes a.text ≡ too_many_groups (drawn_groups range.first range.last plan) → AnswersPlan s plan pieces barriers labels least form a
-  is_untracked : (fault : TrackFault) → form ≡ Waits → CanBeExplained s pieces barriers plan → RefusesWaits s.staging plan (map fields pieces) (Track fault)
+  is_untracked : (fault : TrackFault) → form ≡ Waits → CanBeExplained s pieces barriers plan → RefusesWaits s.staging plan pieces (Track fault)
       → a.status ≡ 1 → string_bytes a.text ≡ untracked fault → AnswersPlan s plan pieces barriers labels least form a
 
 -- the plan that is shown in a form

@@ -6,6 +6,7 @@ use Rattle.serde_json.specs.View.{items_of}
 use Rattle.serde_json.specs.Written.{has_float, items_have_float}
 use Rattle.dsa_tokens.specs.Spelled.{array_of, object_of, whole}
 use Rattle.dsa_descriptor.specs.declared.descriptor.Descriptor.{Descriptor}
+use Rattle.dsa_ranges.specs.Pieces.{writes_of}
 use Rattle.dsa_reasons.specs.declared.fences.Fence.{Fence}
 use Rattle.dsa_reasons.specs.declared.reason.Reason.{Reason}
 use Rattle.dsa_reasons.specs.Sentences.{record_of}
@@ -23,7 +24,7 @@ optional None = refl
 optional (Some n) = refl
 
 reason : (pieces : List Descriptor) (r : Reason) → has_float (reason_value pieces r) ≡ false
-reason pieces r = rw (optional (record_of pieces r)) refl
+reason pieces r = rw (optional (record_of writes_of pieces r)) refl
 
 fence_with : (barrier : Bool) (pieces : List Descriptor) (f : Fence)
     → has_float (object_of (barrier_members barrier ++ (codes "before", whole f.piece) ∷ (codes "conflicts", array_of (map (reason_value pieces) f.named.items)) ∷ [])) ≡ false

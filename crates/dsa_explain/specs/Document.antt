@@ -8,6 +8,7 @@ use Rattle.dsa_descriptor.specs.Descriptors.{fields}
 use Rattle.dsa_lines.specs.Numbers.{hex}
 use Rattle.dsa_lines.specs.Text.{line_text}
 use Rattle.dsa_plan.specs.declared.costs.GroupCost.{GroupCost}
+use Rattle.dsa_ranges.specs.Pieces.{writes_of}
 use Rattle.dsa_reasons.specs.declared.fences.Fence.{Fence}
 use Rattle.dsa_reasons.specs.declared.reason.Reason.{Reason}
 use Rattle.dsa_reasons.specs.Sentences.{kind_words, record_of}
@@ -33,7 +34,7 @@ reason_value pieces r =
     ∷ (codes "earlier", whole r.earlier)
     ∷ (codes "hazard", string (kind_words r.hazard.kind))
     ∷ (codes "later", whole r.later)
-    ∷ (codes "record_of", optional_value (record_of pieces r))
+    ∷ (codes "record_of", optional_value (record_of writes_of pieces r))
     ∷ [])
 
 -- the member that says that a barrier needs the fence, if one does

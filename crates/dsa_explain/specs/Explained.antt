@@ -11,6 +11,7 @@ use Rattle.dsa_plan.specs.Legal.{IsLegal}
 use Rattle.dsa_plan.specs.Costs.{AreCosts}
 use Rattle.dsa_plan.specs.LegalFaults.{IsFirstLegalFault}
 use Rattle.dsa_explain.specs.Cells.{cells_from}
+use Rattle.dsa_ranges.specs.Pieces.{reads_of, writes_of}
 use Rattle.dsa_reasons.specs.Fences.{AreFencesOf}
 use Rattle.dsa_reasons.specs.declared.fences.Detail.{Detail}
 use Rattle.dsa_explain.specs.declared.explanation.Explanation.{Explanation}
@@ -20,7 +21,7 @@ use Rattle.dsa_explain.specs.declared.explanation.ExplainFault.TheVariants.{TooM
 -- the explanation has the plan's costs, its fences and its cells, and the barriers
 pub record IsExplanationOf (s : Limits) (detail : Detail) (pieces : List Descriptor) (barriers : List Bool) (plan : Plan) (e : Explanation) : Type 0 where
   pub costs : AreCosts s (length pieces) plan e.costs
-  pub fences : AreFencesOf detail (map fields pieces) barriers plan e.fences.items
+  pub fences : AreFencesOf detail reads_of writes_of pieces barriers plan e.fences.items
   pub cells : e.cells.items ≡ cells_from 0 plan
   pub marks : e.barriers.items ≡ barriers
 

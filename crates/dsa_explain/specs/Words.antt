@@ -7,6 +7,7 @@ use Rattle.dsa_lines.specs.Text.{line_text}
 use Rattle.dsa_plan.specs.Settings.{Limits}
 use Rattle.dsa_plan.specs.declared.costs.Costs.{Costs}
 use Rattle.dsa_plan.specs.declared.costs.GroupCost.{GroupCost}
+use Rattle.dsa_ranges.specs.Pieces.{writes_of}
 use Rattle.dsa_reasons.specs.declared.fences.Detail.{Detail}
 use Rattle.dsa_reasons.specs.declared.fences.Fence.{Fence}
 use Rattle.dsa_reasons.specs.declared.reason.Reason.{Reason}
@@ -69,7 +70,7 @@ groups_words greatest first last group =
 
 -- the line of each further conflict that is named
 abbrev pub further_lines : List Descriptor → List Reason → List ℕ
-further_lines pieces reasons = flat_map (λ r. codes "     and " ++ (reason_words pieces r ++ codes "\n")) reasons
+further_lines pieces reasons = flat_map (λ r. codes "     and " ++ (reason_words writes_of pieces r ++ codes "\n")) reasons
 
 -- which piece of its operation this is, if that has several
 abbrev pub origin_words : Option Origin → List ℕ
@@ -145,7 +146,7 @@ line_of_fence price pieces None = []
 line_of_fence price pieces (Some fence) =
     codes "  -- fence, cost "
     ++ (decimal price
-    ++ (codes ": " ++ (fence_words pieces fence ++ (codes "\n" ++ further_lines pieces (drop 1 fence.named.items)))))
+    ++ (codes ": " ++ (fence_words writes_of pieces fence ++ (codes "\n" ++ further_lines pieces (drop 1 fence.named.items)))))
 
 -- the lines of the fence before this piece, if there is one
 abbrev pub fence_line : ℕ → List Descriptor → List Fence → Cell → List ℕ

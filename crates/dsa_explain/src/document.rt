@@ -7,6 +7,7 @@ ghost use Rattle.serde_json.specs.Written.{has_float};
 ghost use Rattle.dsa_tokens.specs.Spelled.{array_of};
 ghost use Rattle.dsa_explain.specs.Document.{explanation_line, explanation_value, fence_value, group_value, optional_value, origin_value, piece_value, reason_value};
 ghost use Rattle.dsa_explain.specs.Runs.{labelling};
+ghost use Rattle.dsa_ranges.specs.Pieces.{writes_of};
 ghost use Rattle.dsa_reasons.specs.Sentences.{record_of};
 
 use crate::explanation::Explanation;
@@ -49,7 +50,7 @@ fn groups_json(alloc: Global, groups: &[GroupCost]) -> Result<Value, AllocError>
 
 /// The piece of a conflict whose completion record has the address, as JSON has it.
 fn record_json(pieces: &[Descriptor], reason: &Reason) -> Value
-    ensures { view result ≡ optional_value (record_of pieces.now reason.now) }
+    ensures { view result ≡ optional_value (record_of writes_of pieces.now reason.now) }
 {
     optional_json(record_of(pieces, reason).map(|piece| piece as u64))
 }

@@ -1,6 +1,7 @@
 //! The lines of an explanation.
 
 ghost use Rattle.std.specs.Prelude.{◌≡◌, ◌+◌, ◌<◌, ◌^◌, ◌++◌, IfOk, OnOk, Some, codes, decimal, drop, length, slice_get, string_bytes, if◌then◌else◌};
+ghost use Rattle.dsa_ranges.specs.Pieces.{writes_of};
 ghost use Rattle.dsa_reasons.specs.Sentences.{reason_words};
 ghost use Rattle.dsa_explain.specs.Runs.{labelling, listed, run_length};
 ghost use Rattle.dsa_explain.specs.Words.{cell_lines, explanation_words, fence_line, fences_left, further_lines, group_line, groups_words, is_lower, last_row, line_of_fence, line_of_run, lines_at, name_of, origins_words, parts_words, piece_line, pieces_line, run_line, run_lines, run_words, step_words};
@@ -78,7 +79,7 @@ fn push_further(
     reason: &Reason,
 ) -> Result<(), AllocError>
     ensures { OnOk result (string_bytes text.new ≡ string_bytes text.old ++
-        (codes "     and " ++ (reason_words pieces.now reason.now ++ codes "\n"))) }
+        (codes "     and " ++ (reason_words writes_of pieces.now reason.now ++ codes "\n"))) }
 {
     let words = reason_text(alloc, pieces, reason)?;
     text.push_str("     and ")?;

@@ -4,7 +4,7 @@ use Rattle.std.specs.Prelude.{◌↔◌, IsTrue}
 use Rattle.std.proofs.lemmas.List.{drop_more, map-append}
 use Rattle.std.proofs.lemmas.Option.{slice_get-get_or}
 use Rattle.std.proofs.lemmas.List.Elements.{All-append, All-cons, All-nil}
-use Rattle.dsa_descriptor.specs.Fields.{Fields}
+use Rattle.dsa_descriptor.specs.declared.span.Span.{Span}
 use Rattle.dsa_plan.specs.Plan.{Group, Plan}
 use Rattle.dsa_plan.specs.Barriers.{IsBarrier}
 use Rattle.dsa_plan.specs.Legal.{IsFenced}
@@ -18,8 +18,9 @@ fenced_next : (p i : ℕ) (b : Bool) (g : Group) → fenced_in (p + i) (b ∷ g)
 fenced_next p i b g =
     let e : p + (i + 1) ≡ suc (p + i) = omega arith in rw e refl
 
-pub fence_pushed : (fences : List Fence) (fence : Fence) (start i : ℕ) (g : Group) (all : List ℕ) → fence.piece ≡ start + i → i < length g → get_or g i false ≡ true
-    → fence_places fences ++ fenced_in (start + i) (drop i g) ≡ all → fence_places (fences ++ fence ∷ []) ++ fenced_in (start + (i + 1)) (drop (i + 1) g) ≡ all
+pub fence_pushed : (fences : List Fence) (fence : Fence) (start i : ℕ) (g : Group) (all : List ℕ) → fence.piece ≡ start + i → i < length g
+    → get_or g i false ≡ true → fence_places fences ++ fenced_in (start + i) (drop i g) ≡ all
+    → fence_places (fences ++ fence ∷ []) ++ fenced_in (start + (i + 1)) (drop (i + 1) g) ≡ all
 fence_pushed fences fence start i g all is within fenced so_far =
     let left : fenced_in (start + i) (drop i g) ≡ (start + i) ∷ fenced_in (start + (i + 1)) (drop (i + 1) g) =
     ap (fenced_in (start + i)) (drop_more g i false within)
@@ -44,21 +45,21 @@ pub is_fenced : (start i : ℕ) (g : Group) → i < length g → get_or g i fals
 is_fenced start i g within fenced =
     let e : (start + i) - start ≡ i = omega arith in (omega arith, rw e (slice_get-get_or g i false within ∙ ap Some fenced))
 
-pub explained_pushed : (detail : Detail) (fs : List Fields) (bs : List Bool) (start : ℕ) (g : Group) (before fences : List Fence) (fence : Fence) → IsFenced start g fence.piece
-    → HasReasons detail fs start g fence → IsTrue fence.barrier ↔ IsBarrier bs fence.piece → AddsExplained detail fs bs start g before fences
-    → AddsExplained detail fs bs start g before (fences ++ fence ∷ [])
-explained_pushed detail fs bs start g before fences fence fenced reasons barrier adds plan number there begins all =
-    All-append (IsExplained detail fs bs plan) fences (fence ∷ []) (adds plan number there begins all)
-    (All-cons (IsExplained detail fs bs plan) fence []
+pub explained_pushed : {P : Type 0} (detail : Detail) (reads writes : P → List Span) (fs : List P) (bs : List Bool) (start : ℕ) (g : Group) (before fences : List Fence) (fence : Fence)
+    → IsFenced start g fence.piece → HasReasons detail reads writes fs start g fence → IsTrue fence.barrier ↔ IsBarrier bs fence.piece
+    → AddsExplained detail reads writes fs bs start g before fences → AddsExplained detail reads writes fs bs start g before (fences ++ fence ∷ [])
+explained_pushed detail reads writes fs bs start g before fences fence fenced reasons barrier adds plan number there begins all =
+    All-append (IsExplained detail reads writes fs bs plan) fences (fence ∷ []) (adds plan number there begins all)
+    (All-cons (IsExplained detail reads writes fs bs plan) fence []
     (record {
       number = number;
       group = g;
       is_group = there;
       fenced = subst (λ (s : ℕ). IsFenced s g fence.piece) begins fenced;
-      reasons = subst (λ (s : ℕ). HasReasons detail fs s g fence) begins reasons;
+      reasons = subst (λ (s : ℕ). HasReasons detail reads writes fs s g fence) begins reasons;
       barrier = barrier;
     })
-    (All-nil (IsExplained detail fs bs plan)))
+    (All-nil (IsExplained detail reads writes fs bs plan)))
 
 -- ---- the loop over a plan
 

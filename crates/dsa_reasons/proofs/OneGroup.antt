@@ -6,8 +6,8 @@ use Rattle.std.proofs.lemmas.List.Elements.{All-weaker}
 use Rattle.std.proofs.lemmas.List.Sums.{sum_by-cons}
 use Rattle.std.proofs.lemmas.Option.{same_Some, slice_get-get_or, slice_get_within}
 use Rattle.dsa_descriptor.specs.Fences.{after_first}
-use Rattle.dsa_descriptor.specs.Fields.{Fields}
-use Rattle.dsa_ranges.specs.Ranges.{ConflictAt}
+use Rattle.dsa_descriptor.specs.declared.span.Span.{Span}
+use Rattle.dsa_ranges.specs.Pieces.{PieceConflictAt}
 use Rattle.dsa_settings.specs.Epochs.{cuts, cuts_of_group}
 use Rattle.dsa_settings.proofs.Epochs.{cut_at}
 use Rattle.dsa_settings.proofs.Numbering.{cuts_length}
@@ -82,7 +82,8 @@ abbrev AreFull : Plan → Type 0
 AreFull plan = (i : ℕ) (g : Group) → slice_get plan i ≡ Some g → 0 < length g
 
 -- the plan cuts the list where a group begins
-begin_cut : (plan : Plan) (number : ℕ) (group : Group) → AreFull plan → slice_get plan number ≡ Some group → slice_get (cuts plan) (start_of plan number) ≡ Some true
+begin_cut : (plan : Plan) (number : ℕ) (group : Group) → AreFull plan → slice_get plan number ≡ Some group
+    → slice_get (cuts plan) (start_of plan number) ≡ Some true
 begin_cut plan number group full is =
     let none : start_of plan number + 0 ≡ start_of plan number = omega arith in
     let some : 0 < length group = full number group is in
@@ -104,10 +105,11 @@ end_cut plan number group full is less =
 
 -- ---- a fence of a group, and the same fence of the one group
 
-module _ (fs : List Fields) (plan : Plan) (number : ℕ) (group : Group) (k : ℕ) (full : AreFull plan) (begins : slice_get group 0 ≡ Some false)
+module _ {P : Type 0} (reads writes : P → List Span) (fs : List P) (plan : Plan) (number : ℕ) (group : Group) (k : ℕ) (full : AreFull plan) (begins : slice_get group 0 ≡ Some false)
     (is : slice_get plan number ≡ Some group) (fenced : IsFenced (start_of plan number) group k) where
   -- after its first piece the group is fenced where the plan cuts the list
-  same_within : (other : ℕ) → start_of plan number < other → other < start_of plan number + length group → slice_get (cuts plan) other ≡ slice_get group (other - start_of plan number)
+  same_within : (other : ℕ) → start_of plan number < other → other < start_of plan number + length group
+      → slice_get (cuts plan) other ≡ slice_get group (other - start_of plan number)
   same_within other after before =
       let place : start_of plan number + (other - start_of plan number) ≡ other = omega arith in
       ap (λ (n : ℕ). slice_get (cuts plan) n) (sym place)
@@ -126,7 +128,8 @@ module _ (fs : List Fields) (plan : Plan) (number : ℕ) (group : Group) (k : �
   within : k < start_of plan number + length group
   within = omega (arith, slice_get_within group (k - start_of plan number) true fenced.1, fenced.0)
 
-  to_whole : (a b : ℕ) → NeedsFence (ConflictAt fs) (start_of plan number) group k a b → NeedsFence (ConflictAt fs) 0 (after_first (cuts plan)) k a b
+  to_whole : (a b : ℕ) → NeedsFence (PieceConflictAt reads writes fs) (start_of plan number) group k a b
+      → NeedsFence (PieceConflictAt reads writes fs) 0 (after_first (cuts plan)) k a b
   to_whole a b n =
       record {
         conflicts = record {
@@ -143,7 +146,7 @@ module _ (fs : List Fields) (plan : Plan) (number : ℕ) (group : Group) (k : �
             n.alone other after up_to (omega (arith, begun), sym (same_within other begun inside) ∙ (fenced_cut plan other cut).1);
       }
 
-  starts_here : (a b : ℕ) → NeedsFence (ConflictAt fs) 0 (after_first (cuts plan)) k a b → start_of plan number ≤ a
+  starts_here : (a b : ℕ) → NeedsFence (PieceConflictAt reads writes fs) 0 (after_first (cuts plan)) k a b → start_of plan number ≤ a
   starts_here a b n =
       elim (cases_lt a (start_of plan number)) [
         | inl below ↦
@@ -153,7 +156,7 @@ module _ (fs : List Fields) (plan : Plan) (number : ℕ) (group : Group) (k : �
         | inr from ↦ from
       ]
 
-  ends_here : (a b : ℕ) → NeedsFence (ConflictAt fs) 0 (after_first (cuts plan)) k a b → b < start_of plan number + length group
+  ends_here : (a b : ℕ) → NeedsFence (PieceConflictAt reads writes fs) 0 (after_first (cuts plan)) k a b → b < start_of plan number + length group
   ends_here a b n =
       elim (cases_lt b (start_of plan number + length group)) [
         | inl inside ↦ inside
@@ -165,7 +168,8 @@ module _ (fs : List Fields) (plan : Plan) (number : ℕ) (group : Group) (k : �
             absurd (omega (arith, same, within))
       ]
 
-  from_whole : (a b : ℕ) → NeedsFence (ConflictAt fs) 0 (after_first (cuts plan)) k a b → NeedsFence (ConflictAt fs) (start_of plan number) group k a b
+  from_whole : (a b : ℕ) → NeedsFence (PieceConflictAt reads writes fs) 0 (after_first (cuts plan)) k a b
+      → NeedsFence (PieceConflictAt reads writes fs) (start_of plan number) group k a b
   from_whole a b n =
       let starts = starts_here a b n in
       record {
@@ -181,10 +185,11 @@ module _ (fs : List Fields) (plan : Plan) (number : ℕ) (group : Group) (k : �
   pub whole_fenced : IsFenced 0 (after_first (cuts plan)) k
   whole_fenced = cut_fenced plan k (omega (arith, after_start)) (same_within k after_start within ∙ fenced.1)
 
-  pub same_reasons : (rs : List Reason) → AreReasonsFor fs (start_of plan number) group k rs → AreReasonsFor fs 0 (after_first (cuts plan)) k rs
+  pub same_reasons : (rs : List Reason) → AreReasonsFor reads writes fs (start_of plan number) group k rs
+      → AreReasonsFor reads writes fs 0 (after_first (cuts plan)) k rs
   same_reasons rs h =
       record {
-        each = All-weaker (IsReason fs (start_of plan number) group k) (IsReason fs 0 (after_first (cuts plan)) k)
+        each = All-weaker (IsReason reads writes fs (start_of plan number) group k) (IsReason reads writes fs 0 (after_first (cuts plan)) k)
             (λ r reason. record { needs = to_whole r.earlier r.later reason.needs; hazard = reason.hazard }) rs h.each;
         all = λ a b n. h.all a b (from_whole a b n);
         order = h.order;
@@ -195,19 +200,19 @@ module _ (fs : List Fields) (plan : Plan) (number : ℕ) (group : Group) (k : �
 from_start : (plan : Plan) → 0 ≡ start_of plan 0
 from_start plan = omega arith
 
-pub fences_are_cuts : FencesAreCuts
-fences_are_cuts detail fs barriers greatest_batch plan fence legal e =
+pub fences_are_cuts : {P : Type 0} (reads writes : P → List Span) (conflict : List P → ℕ → ℕ → Type 0) → FencesAreCuts reads writes conflict
+fences_are_cuts reads writes conflict detail fs barriers greatest_batch plan fence legal e =
     let whole : Group = after_first (cuts plan) in
     let full : AreFull plan = λ i g there. (legal.groups i g there).size.nonempty in
     let begins : slice_get e.group 0 ≡ Some false = (legal.groups e.number e.group e.is_group).begins in
-    let are : AreReasonsFor fs 0 whole fence.piece e.reasons.reasons =
-    same_reasons fs plan e.number e.group fence.piece full begins e.is_group e.fenced e.reasons.reasons e.reasons.are in
+    let are : AreReasonsFor reads writes fs 0 whole fence.piece e.reasons.reasons =
+    same_reasons reads writes fs plan e.number e.group fence.piece full begins e.is_group e.fenced e.reasons.reasons e.reasons.are in
     record {
       number = 0;
       group = whole;
       is_group = refl;
-      fenced = subst (λ (s : ℕ). IsFenced s whole fence.piece) (from_start (one_group plan)) (whole_fenced fs plan e.number e.group fence.piece full begins e.is_group e.fenced);
-      reasons = subst (λ (s : ℕ). HasReasons detail fs s whole fence) (from_start (one_group plan))
+      fenced = subst (λ (s : ℕ). IsFenced s whole fence.piece) (from_start (one_group plan)) (whole_fenced reads writes fs plan e.number e.group fence.piece full begins e.is_group e.fenced);
+      reasons = subst (λ (s : ℕ). HasReasons detail reads writes fs s whole fence) (from_start (one_group plan))
           record { reasons = e.reasons.reasons; are = are; named = e.reasons.named; more = e.reasons.more };
       barrier = e.barrier;
     }
@@ -215,8 +220,8 @@ fences_are_cuts detail fs barriers greatest_batch plan fence legal e =
 none_read : {X : Type 0} (i : ℕ) (x : X) → slice_get [] i ≡ Some x → ⊥
 none_read i x h = cc
 
-in_whole : (plan : Plan) (k number : ℕ) (group : Group) → slice_get (one_group plan) number ≡ Some group → IsFenced (start_of (one_group plan) number) group k
-    → IsFenced 0 (after_first (cuts plan)) k
+in_whole : (plan : Plan) (k number : ℕ) (group : Group) → slice_get (one_group plan) number ≡ Some group
+    → IsFenced (start_of (one_group plan) number) group k → IsFenced 0 (after_first (cuts plan)) k
 in_whole plan k zero group there fenced =
     let same : after_first (cuts plan) ≡ group = same_Some (after_first (cuts plan)) group there in
     subst (λ (g : Group). IsFenced 0 g k) (sym same) (subst (λ (s : ℕ). IsFenced s group k) (sym (from_start (one_group plan))) fenced)

@@ -1,33 +1,41 @@
 -- What the search for a fence's reasons asks of two pieces.
-use Rattle.std.proofs.Common.{◌≡◌, ℕ, ◌-◌, ◌<◌, ◌≤◌, inl, inr, List, length, get_or, subst, arith}
-use Rattle.std.specs.Prelude.{map}
+use Rattle.std.proofs.Common.{◌≡◌, ℕ, ◌-◌, ◌<◌, ◌≤◌, inl, inr, List, length, get_or, refl, sym, ◌∙◌, subst, arith}
 use Rattle.std.proofs.lemmas.Bool.{cases_eq}
-use Rattle.dsa_descriptor.specs.declared.descriptor.Descriptor.{Descriptor}
+use Rattle.std.proofs.lemmas.Option.{same_Some, slice_get_read}
 use Rattle.dsa_descriptor.specs.declared.span.Span.{Span}
-use Rattle.dsa_descriptor.specs.Descriptors.{fields}
-use Rattle.dsa_descriptor.specs.Fields.{Fields}
 use Rattle.dsa_ranges.specs.declared.hazards.HazardKind.{HazardKind}
 use Rattle.dsa_ranges.specs.declared.hazards.HazardKind.TheVariants.{ReadAfterWrite, WriteAfterRead, WriteAfterWrite}
 use Rattle.dsa_ranges.specs.declared.hazards.Hazard.{Hazard}
-use Rattle.dsa_ranges.specs.Ranges.{read_spans, written_spans, SpansConflict, ConflictAt}
+use Rattle.dsa_ranges.specs.Ranges.{SpansConflict}
 use Rattle.dsa_ranges.specs.Hazards.{IsHazard}
-use Rattle.dsa_ranges.proofs.Places.{fields_at}
+use Rattle.dsa_ranges.specs.Pieces.{PieceConflictAt}
 use Rattle.dsa_plan.specs.Plan.{Group}
 use Rattle.dsa_plan.specs.Legal.{IsFenced}
 use Rattle.dsa_reasons.specs.Reasons.{NeedsFence, IsHazardOf, IsReached}
 
--- what was found of the spans of the descriptors at two places
-pub hazard_seen : (ds : List Descriptor) (i j : ℕ) (d e : Descriptor) (r w r' w' : List Span) (h : Hazard) → i < length ds → j < length ds
-    → d ≡ get_or ds i d → e ≡ get_or ds j e → r ≡ read_spans (fields d) → w ≡ written_spans (fields d) → r' ≡ read_spans (fields e) → w' ≡ written_spans (fields e)
-    → IsHazard r w r' w' h.address h.kind → IsHazardOf (map fields ds) i j h
-hazard_seen ds i j d e r w r' w' h i_within j_within i_is j_is p q p' q' is =
-    record {
-      earlier = fields d;
-      later = fields e;
-      earlier_is = fields_at ds i d i_within i_is;
-      later_is = fields_at ds j e j_within j_is;
-      hazard = rw (p, q, p', q') at is;
-    }
+module _ {P : Type 0} (reads writes : P → List Span) (ps : List P) (i j : ℕ) (p q : P) (r w r' w' : List Span) where
+  -- what was found of the spans of the pieces at two places
+  pub hazard_seen : (h : Hazard) → i < length ps → j < length ps → p ≡ get_or ps i p → q ≡ get_or ps j q → r ≡ reads p → w ≡ writes p → r' ≡ reads q
+      → w' ≡ writes q → IsHazard r w r' w' h.address h.kind → IsHazardOf reads writes ps i j h
+  hazard_seen h i_within j_within i_is j_is a b a' b' is =
+      record {
+        earlier = p;
+        later = q;
+        earlier_is = slice_get_read ps (length ps) i p refl i_within i_is;
+        later_is = slice_get_read ps (length ps) j q refl j_within j_is;
+        hazard = rw (a, b, a', b') at is;
+      }
+
+  -- if the pieces there conflict, so do the spans
+  pub conflict_seen : i < length ps → j < length ps → p ≡ get_or ps i p → q ≡ get_or ps j q → r ≡ reads p → w ≡ writes p → r' ≡ reads q
+      → w' ≡ writes q → PieceConflictAt reads writes ps i j → SpansConflict r w r' w'
+  conflict_seen i_within j_within i_is j_is a b a' b' (s, t, at_i, at_j, h) =
+      let first : s ≡ p = same_Some s p (sym at_i ∙ slice_get_read ps (length ps) i p refl i_within i_is) in
+      let second : t ≡ q = same_Some t q (sym at_j ∙ slice_get_read ps (length ps) j q refl j_within j_is) in
+      let here : SpansConflict (reads p) (writes p) (reads q) (writes q) =
+      subst (λ (x : P). SpansConflict (reads p) (writes p) (reads x) (writes x)) second
+      (subst (λ (x : P). SpansConflict (reads x) (writes x) (reads t) (writes t)) first h) in
+      rw (a, b, a', b') here
 
 -- a hazard is a conflict
 hazard_meets : (r w r' w' : List Span) (address : ℕ) (kind : HazardKind) → IsHazard r w r' w' address kind → SpansConflict r w r' w'
@@ -35,13 +43,14 @@ hazard_meets r w r' w' address ReadAfterWrite (here, there) = inl (address, here
 hazard_meets r w r' w' address WriteAfterRead (here, there, no_read, no_write) = inr (address, there, inl here)
 hazard_meets r w r' w' address WriteAfterWrite (here, there, no_read) = inl (address, here, inr there)
 
-pub hazard_conflicts : (fs : List Fields) (a b : ℕ) (h : Hazard) → IsHazardOf fs a b h → ConflictAt fs a b
-hazard_conflicts fs a b h is = (
+pub hazard_conflicts : {P : Type 0} (reads writes : P → List Span) (fs : List P) (a b : ℕ) (h : Hazard) → IsHazardOf reads writes fs a b h
+    → PieceConflictAt reads writes fs a b
+hazard_conflicts reads writes fs a b h is = (
   is.earlier,
   is.later,
   is.earlier_is,
   is.later_is,
-  hazard_meets (read_spans is.earlier) (written_spans is.earlier) (read_spans is.later) (written_spans is.later) h.address h.kind is.hazard,
+  hazard_meets (reads is.earlier) (writes is.earlier) (reads is.later) (writes is.later) h.address h.kind is.hazard,
 )
 
 -- ---- the inner loop, which has come from `at` down to i

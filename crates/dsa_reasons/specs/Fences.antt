@@ -1,6 +1,6 @@
 -- The fences of a plan, and what each is for.
 use Rattle.std.specs.Prelude.{◌≡◌, ◌↔◌, ℕ, suc, ◌+◌, ◌-◌, All, Bool, IsTrue, List, [], ◌∷◌, ◌++◌, length, map, slice_get, take, Some, if◌then◌else◌}
-use Rattle.dsa_descriptor.specs.Fields.{Fields}
+use Rattle.dsa_descriptor.specs.declared.span.Span.{Span}
 use Rattle.dsa_plan.specs.Plan.{Group, Plan, start_of}
 use Rattle.dsa_plan.specs.Barriers.{IsBarrier}
 use Rattle.dsa_plan.specs.Legal.{IsFenced}
@@ -28,20 +28,20 @@ named_of First reasons = take 1 reasons
 named_of Every reasons = reasons
 
 -- the fence names its reasons in that detail, and says how many more there are
-pub record HasReasons (detail : Detail) (pieces : List Fields) (start : ℕ) (group : Group) (fence : Fence) : Type 0 where
+pub record HasReasons {P : Type 0} (detail : Detail) (reads writes : P → List Span) (pieces : List P) (start : ℕ) (group : Group) (fence : Fence) : Type 0 where
   pub reasons : List Reason
-  pub are : AreReasonsFor pieces start group fence.piece reasons
+  pub are : AreReasonsFor reads writes pieces start group fence.piece reasons
   pub named : fence.named.items ≡ named_of detail reasons
   pub more : fence.more ≡ length reasons - length fence.named.items
 
 -- the fence is in a group of the plan; it has the reasons that need it there, and says if there is a barrier before its
 -- piece
-pub record IsExplained (detail : Detail) (pieces : List Fields) (barriers : List Bool) (plan : Plan) (fence : Fence) : Type 0 where
+pub record IsExplained {P : Type 0} (detail : Detail) (reads writes : P → List Span) (pieces : List P) (barriers : List Bool) (plan : Plan) (fence : Fence) : Type 0 where
   pub number : ℕ
   pub group : Group
   pub is_group : slice_get plan number ≡ Some group
   pub fenced : IsFenced (start_of plan number) group fence.piece
-  pub reasons : HasReasons detail pieces (start_of plan number) group fence
+  pub reasons : HasReasons detail reads writes pieces (start_of plan number) group fence
   pub barrier : IsTrue fence.barrier ↔ IsBarrier barriers fence.piece
 
 -- the pieces that fences are before
@@ -49,14 +49,14 @@ abbrev pub fence_places : List Fence → List ℕ
 fence_places fences = map (λ fence. fence.piece) fences
 
 -- one fence before each fenced piece of the plan, in order, and each with its reasons
-pub record AreFencesOf (detail : Detail) (pieces : List Fields) (barriers : List Bool) (plan : Plan) (fences : List Fence) : Type 0 where
+pub record AreFencesOf {P : Type 0} (detail : Detail) (reads writes : P → List Span) (pieces : List P) (barriers : List Bool) (plan : Plan) (fences : List Fence) : Type 0 where
   pub places : fence_places fences ≡ fenced_pieces 0 plan
-  pub reasons : All (IsExplained detail pieces barriers plan) fences
+  pub reasons : All (IsExplained detail reads writes pieces barriers plan) fences
 
 -- ---- for private clauses
 
 -- fences of this group are added: if all were explained before, all are explained after
-abbrev pub AddsExplained : Detail → List Fields → List Bool → ℕ → Group → List Fence → List Fence → Type 0
-AddsExplained detail pieces barriers start group before after =
+abbrev pub AddsExplained : {P : Type 0} → Detail → (P → List Span) → (P → List Span) → List P → List Bool → ℕ → Group → List Fence → List Fence → Type 0
+AddsExplained detail reads writes pieces barriers start group before after =
     (plan : Plan) (number : ℕ) → slice_get plan number ≡ Some group → start ≡ start_of plan number →
-    All (IsExplained detail pieces barriers plan) before → All (IsExplained detail pieces barriers plan) after
+    All (IsExplained detail reads writes pieces barriers plan) before → All (IsExplained detail reads writes pieces barriers plan) after

@@ -1,7 +1,6 @@
 -- What fences and cuts promise.
 use Rattle.std.specs.Prelude.{ℕ, ◌≡◌, ◌<◌, ◌↔◌, AllPairs, Bool, true, Contains, List, length, slice_get, Some}
-use Rattle.dsa_descriptor.specs.Fields.{Fields}
-use Rattle.dsa_ranges.specs.Ranges.{ConflictAt}
+use Rattle.dsa_descriptor.specs.declared.span.Span.{Span}
 use Rattle.dsa_settings.specs.Epochs.{cuts}
 use Rattle.dsa_plan.specs.Barriers.{WithBarriers}
 use Rattle.dsa_plan.specs.Plan.{Group, Plan, start_of}
@@ -31,9 +30,10 @@ EachCutOnce =
     (plan : Plan) → AllPairs (λ a b. a < b) (fenced_pieces 0 (one_group plan))
     × ((k : ℕ) → Contains (fenced_pieces 0 (one_group plan)) k ↔ ((0 < k) × (slice_get (cuts plan) k ≡ Some true)))
 
--- a fence of a legal plan that is explained in it is explained so in the plan as one group
-abbrev pub FencesAreCuts : Type 0
-FencesAreCuts =
-    (detail : Detail) (pieces : List Fields) (barriers : List Bool) (greatest_batch : ℕ) (plan : Plan) (fence : Fence) →
-    IsLegal (WithBarriers (ConflictAt pieces) barriers) greatest_batch (length pieces) plan →
-    IsExplained detail pieces barriers plan fence → IsExplained detail pieces barriers (one_group plan) fence
+-- a fence of a legal plan that is explained in it is explained so in the plan as one group: of pieces that read, write and
+-- conflict as the functions say
+abbrev pub FencesAreCuts : {P : Type 0} → (P → List Span) → (P → List Span) → (List P → ℕ → ℕ → Type 0) → Type 0
+FencesAreCuts {P} reads writes conflict =
+    (detail : Detail) (pieces : List P) (barriers : List Bool) (greatest_batch : ℕ) (plan : Plan) (fence : Fence) →
+    IsLegal (WithBarriers (conflict pieces) barriers) greatest_batch (length pieces) plan →
+    IsExplained detail reads writes pieces barriers plan fence → IsExplained detail reads writes pieces barriers (one_group plan) fence

@@ -3,7 +3,7 @@
 -- awaited in turn is this project's choice).
 use Rattle.std.specs.Prelude.{Bool, List, [], ◌∷◌}
 use Rattle.dsa_descriptor.specs.Fences.{after_first}
-use Rattle.dsa_descriptor.specs.Fields.{Fields}
+use Rattle.dsa_descriptor.specs.declared.span.Span.{Span}
 use Rattle.dsa_settings.specs.Epochs.{cuts}
 use Rattle.dsa_plan.specs.Plan.{Plan}
 use Rattle.dsa_reasons.specs.declared.fences.Fence.{Fence}
@@ -15,5 +15,5 @@ abbrev pub one_group : Plan → Plan
 one_group plan = after_first (cuts plan) ∷ []
 
 -- the reasons of the fences of that group, each with the first of the conflicts that it alone separates
-abbrev pub AreCutReasons : List Fields → List Bool → Plan → List Fence → Type 0
-AreCutReasons pieces barriers plan fences = AreFencesOf First pieces barriers (one_group plan) fences
+abbrev pub AreCutReasons : {P : Type 0} → (P → List Span) → (P → List Span) → List P → List Bool → Plan → List Fence → Type 0
+AreCutReasons reads writes pieces barriers plan fences = AreFencesOf First reads writes pieces barriers (one_group plan) fences

@@ -1,6 +1,6 @@
 -- The sentence of a fence, or of a group's beginning (this project's choice).
-use Rattle.std.specs.Prelude.{ℕ, ◌-◌, ◌==◌, ◌&&◌, nat_le, nat_lt, Bool, true, false, List, [], ◌++◌, codes, decimal, slice_get, Option, Some, None, if◌then◌else◌}
-use Rattle.dsa_descriptor.specs.declared.descriptor.Descriptor.{Descriptor}
+use Rattle.std.specs.Prelude.{ℕ, ◌-◌, ◌==◌, ◌&&◌, nat_le, nat_lt, Bool, true, false, List, [], ◌∷◌, ◌++◌, codes, decimal, slice_get, Option, Some, None, if◌then◌else◌}
+use Rattle.dsa_descriptor.specs.declared.span.Span.{Span}
 use Rattle.dsa_ranges.specs.declared.hazards.HazardKind.{HazardKind}
 use Rattle.dsa_ranges.specs.declared.hazards.HazardKind.TheVariants.{ReadAfterWrite, WriteAfterRead, WriteAfterWrite}
 use Rattle.dsa_lines.specs.Numbers.{hex}
@@ -19,30 +19,35 @@ abbrev pub conflict_words : Reason → List ℕ
 conflict_words r =
     decimal r.later ++ (codes " after " ++ (decimal r.earlier ++ (codes ", " ++ (kind_words r.hazard.kind ++ (codes " at " ++ hex r.hazard.address)))))
 
--- the address is one of the 32 of the piece's completion record
-abbrev pub is_in_record : Option Descriptor → ℕ → Bool
-is_in_record None address = false
-is_in_record (Some d) address = nat_le d.record_at address && nat_lt (address - d.record_at) 32
+-- the address lies in the first of the spans
+abbrev pub is_in_first : List Span → ℕ → Bool
+is_in_first [] address = false
+is_in_first (s ∷ spans) address = nat_le s.first address && nat_lt (address - s.first) s.len
+
+-- the address is one of the piece's completion record, the first span that it writes
+abbrev pub is_in_record : {P : Type 0} → (P → List Span) → Option P → ℕ → Bool
+is_in_record writes None address = false
+is_in_record writes (Some p) address = is_in_first (writes p) address
 
 -- the piece of a conflict whose completion record has the address, if one has; the earlier one if both have
-abbrev pub record_of : List Descriptor → Reason → Option ℕ
-record_of pieces r =
-    if is_in_record (slice_get pieces r.earlier) r.hazard.address
+abbrev pub record_of : {P : Type 0} → (P → List Span) → List P → Reason → Option ℕ
+record_of writes pieces r =
+    if is_in_record writes (slice_get pieces r.earlier) r.hazard.address
     then Some r.earlier
-    else (if is_in_record (slice_get pieces r.later) r.hazard.address then Some r.later else None)
+    else (if is_in_record writes (slice_get pieces r.later) r.hazard.address then Some r.later else None)
 
 -- a conflict of these pieces, with the piece whose record has its address
-abbrev pub named : List Descriptor → Reason → NamedConflict
-named pieces r = record { reason = r; record_of = record_of pieces r }
+abbrev pub named : {P : Type 0} → (P → List Span) → List P → Reason → NamedConflict
+named writes pieces r = record { reason = r; record_of = record_of writes pieces r }
 
 -- the same of a conflict that may be missing
-abbrev pub named_option : List Descriptor → Option Reason → Option NamedConflict
-named_option pieces None = None
-named_option pieces (Some r) = Some (named pieces r)
+abbrev pub named_option : {P : Type 0} → (P → List Span) → List P → Option Reason → Option NamedConflict
+named_option writes pieces None = None
+named_option writes pieces (Some r) = Some (named writes pieces r)
 
 -- the first of these conflicts, if there is one
-abbrev pub first_conflict : List Descriptor → List Reason → Option NamedConflict
-first_conflict pieces reasons = named_option pieces (slice_get reasons 0)
+abbrev pub first_conflict : {P : Type 0} → (P → List Span) → List P → List Reason → Option NamedConflict
+first_conflict writes pieces reasons = named_option writes pieces (slice_get reasons 0)
 
 -- that the address lies in a completion record
 abbrev pub record_words : Option ℕ → List ℕ
@@ -54,8 +59,8 @@ abbrev pub named_words : NamedConflict → List ℕ
 named_words c = conflict_words c.reason ++ record_words c.record_of
 
 -- a conflict of these pieces that a fence separates
-abbrev pub reason_words : List Descriptor → Reason → List ℕ
-reason_words pieces r = named_words (named pieces r)
+abbrev pub reason_words : {P : Type 0} → (P → List Span) → List P → Reason → List ℕ
+reason_words writes pieces r = named_words (named writes pieces r)
 
 -- what needs a fence: a barrier, a conflict, or both
 abbrev pub need_words : Bool → Option NamedConflict → List ℕ
@@ -73,5 +78,5 @@ abbrev pub sentence_words : Bool → Option NamedConflict → ℕ → List ℕ
 sentence_words barrier conflict more = need_words barrier conflict ++ more_words more
 
 -- that of a fence: the first of the conflicts that it names, and how many more there are that it does not name
-abbrev pub fence_words : List Descriptor → Fence → List ℕ
-fence_words pieces fence = sentence_words fence.barrier (first_conflict pieces fence.named.items) fence.more
+abbrev pub fence_words : {P : Type 0} → (P → List Span) → List P → Fence → List ℕ
+fence_words writes pieces fence = sentence_words fence.barrier (first_conflict writes pieces fence.named.items) fence.more

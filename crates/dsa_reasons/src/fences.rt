@@ -1,7 +1,6 @@
 //! The fences of a plan, each with the conflicts that only this fence separates.
 
-ghost use Rattle.std.specs.Prelude.{◌≡◌, ◌+◌, ◌≤◌, ◌++◌, ◌↔◌, IfOk, IsTrue, OnOk, length, map};
-ghost use Rattle.dsa_descriptor.specs.Descriptors.{fields};
+ghost use Rattle.std.specs.Prelude.{◌≡◌, ◌+◌, ◌≤◌, ◌++◌, ◌↔◌, IfOk, IsTrue, OnOk, length};
 ghost use Rattle.dsa_descriptor.specs.Pieces.{most_pieces};
 ghost use Rattle.dsa_plan.specs.Barriers.{IsBarrier};
 ghost use Rattle.dsa_plan.specs.Legal.{IsFenced};
@@ -9,8 +8,8 @@ ghost use Rattle.dsa_plan.specs.Plan.{piece_count};
 ghost use Rattle.dsa_reasons.specs.Fences.{AddsExplained, AreFencesOf, HasReasons, fence_places, fenced_in, named_of};
 
 use crate::reason::{Reason, reasons_of};
-use dsa_descriptor::Descriptor;
 use dsa_plan::{Group, Plan, is_barrier};
+use dsa_ranges::Touching;
 use std::alloc::{AllocError, Global};
 
 /// Which of the conflicts that a fence separates an explanation names.
@@ -50,10 +49,10 @@ fn named_of(alloc: Global, detail: Detail, reasons: Vec<Reason>) -> Result<Vec<R
 }
 
 /// The fence at a piece of a group that begins with piece `start`.
-fn fence_of(
+fn fence_of<P: Touching>(
     alloc: Global,
     flags: &[bool],
-    pieces: &[Descriptor],
+    pieces: &[P],
     barriers: &[bool],
     start: usize,
     piece: usize,
@@ -64,7 +63,7 @@ fn fence_of(
     requires fenced { IsFenced start flags.now piece }
     ensures piece { IfOk result (λ fence. fence.piece ≡ piece) }
     ensures barrier { IfOk result (λ fence. IsTrue fence.barrier ↔ IsBarrier barriers.now piece) }
-    ensures reasons { IfOk result (HasReasons detail (map fields pieces.now) start flags.now) }
+    ensures reasons { IfOk result (HasReasons detail P.reads P.writes pieces.now start flags.now) }
 {
     let reasons = reasons_of(alloc, flags, pieces, start, piece)?;
     let count = reasons.len();
@@ -80,11 +79,11 @@ fn fence_of(
 }
 
 /// Writes the fences of a group at the end.
-fn push_fences(
+fn push_fences<P: Touching>(
     alloc: Global,
     fences: &mut Vec<Fence>,
     group: &Group,
-    pieces: &[Descriptor],
+    pieces: &[P],
     barriers: &[bool],
     start: usize,
     detail: Detail,
@@ -93,7 +92,7 @@ fn push_fences(
     requires few { length pieces.now ≤ most_pieces }
     ensures places { OnOk result (fence_places fences.new.items ≡
         fence_places fences.old.items ++ fenced_in start group.now) }
-    ensures explained { OnOk result (AddsExplained detail (map fields pieces.now)
+    ensures explained { OnOk result (AddsExplained detail P.reads P.writes pieces.now
         barriers.now start group.now fences.old.items fences.new.items) }
 {
     let flags = group.fences();
@@ -108,17 +107,17 @@ fn push_fences(
 
 /// The fences of a plan of pieces and their barriers, in order. The mark of a piece says whether it
 /// begins after a barrier.
-pub fn fences_of(
+pub fn fences_of<P: Touching>(
     alloc: Global,
     plan: &Plan,
-    pieces: &[Descriptor],
+    pieces: &[P],
     barriers: &[bool],
     detail: Detail,
 ) -> Result<Vec<Fence>, AllocError>
     requires all { piece_count plan.now ≡ length pieces.now }
     requires few { length pieces.now ≤ most_pieces }
-    ensures { IfOk result
-        (λ fences. AreFencesOf detail (map fields pieces.now) barriers.now plan.now fences.items) }
+    ensures { IfOk result (λ fences.
+        AreFencesOf detail P.reads P.writes pieces.now barriers.now plan.now fences.items) }
 {
     let mut fences = Vec::new(alloc);
     let mut start: usize = 0;

@@ -2,6 +2,8 @@
 
 ghost use Rattle.dsa_reasons.specs.Laws.{EachCutOnce, EachFenceOnce, FencesAreCuts};
 
+use dsa_ranges::Touching;
+
 /// The list of the fenced pieces of a plan has each of them once, in order, and no other. This is a law: the body is
 /// empty, and the clause is what the proof shows.
 pub fn each_fence_once()
@@ -16,6 +18,6 @@ pub fn each_cut_once()
 
 /// What an explanation says of a fence of a legal plan is what it says of that fence among all that cuts the list. This
 /// is a law too.
-pub fn fences_are_cuts()
-    ensures { FencesAreCuts }
+pub fn fences_are_cuts<P: Touching>()
+    ensures { FencesAreCuts P.reads P.writes P.conflict }
 {}

@@ -1,16 +1,15 @@
 //! Why a plan has its fences and its groups: the plan as one group, in which each group's beginning after the first is
 //! a fence, too.
 
-ghost use Rattle.std.specs.Prelude.{◌≡◌, ◌≤◌, IfOk, length, map};
-ghost use Rattle.dsa_descriptor.specs.Descriptors.{fields};
+ghost use Rattle.std.specs.Prelude.{◌≡◌, ◌≤◌, IfOk, length};
 ghost use Rattle.dsa_descriptor.specs.Fences.{after_first};
 ghost use Rattle.dsa_descriptor.specs.Pieces.{most_pieces};
 ghost use Rattle.dsa_plan.specs.Plan.{piece_count};
 ghost use Rattle.dsa_reasons.specs.OneGroup.{AreCutReasons, one_group};
 
 use crate::fences::{Detail, Fence, fences_of};
-use dsa_descriptor::Descriptor;
 use dsa_plan::{Group, Plan};
+use dsa_ranges::Touching;
 use dsa_settings::cuts_of;
 use std::alloc::{AllocError, Global};
 
@@ -40,16 +39,16 @@ fn one_group(alloc: Global, plan: &Plan) -> Result<Plan, AllocError>
 ///
 /// # Errors
 /// [`AllocError`] at the first allocation that fails.
-pub fn cut_reasons(
+pub fn cut_reasons<P: Touching>(
     alloc: Global,
     plan: &Plan,
-    pieces: &[Descriptor],
+    pieces: &[P],
     barriers: &[bool],
 ) -> Result<Vec<Fence>, AllocError>
     requires all { piece_count plan.now ≡ length pieces.now }
     requires few { length pieces.now ≤ most_pieces }
     ensures { IfOk result
-        (λ fences. AreCutReasons (map fields pieces.now) barriers.now plan.now fences.items) }
+        (λ fences. AreCutReasons P.reads P.writes pieces.now barriers.now plan.now fences.items) }
 {
     let whole = one_group(alloc, plan)?;
     fences_of(alloc, &whole, pieces, barriers, Detail::First)

@@ -1,13 +1,11 @@
 //! Which conflicts a fence separates.
 
-ghost use Rattle.std.specs.Prelude.{◌≡◌, suc, ◌+◌, ◌^◌, ◌<◌, ◌≤◌, map, length, IfOk, OnOk};
-ghost use Rattle.dsa_descriptor.specs.Descriptors.{fields};
+ghost use Rattle.std.specs.Prelude.{◌≡◌, suc, ◌+◌, ◌^◌, ◌<◌, ◌≤◌, length, IfOk, OnOk};
 ghost use Rattle.dsa_descriptor.specs.Pieces.{most_pieces};
 ghost use Rattle.dsa_plan.specs.Legal.{IsFenced};
 ghost use Rattle.dsa_reasons.specs.Reasons.{AreReasonsFor, HasReasonsSoFar, IsOpen};
 
-use dsa_descriptor::Descriptor;
-use dsa_ranges::{Hazard, find_hazard, touched};
+use dsa_ranges::{Hazard, Touching, find_hazard};
 use std::alloc::{AllocError, Global};
 
 /// A conflict that a fence separates. Pieces are numbered from 0.
@@ -41,10 +39,10 @@ fn next_fence(fences: &[bool], start: usize, at: usize) -> usize
 
 /// Adds a reason for each piece from the fence before `at` to before `at` that conflicts with the piece `later`, from
 /// the last one down.
-fn push_conflicts(
+fn push_conflicts<P: Touching>(
     reasons: &mut Vec<Reason>,
     fences: &[bool],
-    pieces: &[Descriptor],
+    pieces: &[P],
     start: usize,
     at: usize,
     later: usize,
@@ -54,16 +52,16 @@ fn push_conflicts(
     requires within { later < start + length fences.now }
     requires known { start + length fences.now ≤ length pieces.now }
     requires few { length pieces.now ≤ most_pieces }
-    requires so_far { HasReasonsSoFar (map fields pieces.now)
+    requires so_far { HasReasonsSoFar P.reads P.writes pieces.now
         start fences.now at later at reasons.old.items }
-    ensures { OnOk result (HasReasonsSoFar (map fields pieces.now)
+    ensures { OnOk result (HasReasonsSoFar P.reads P.writes pieces.now
         start fences.now at (suc later) at reasons.new.items) }
 {
-    let waiting = touched(&pieces[later]);
+    let waiting = pieces[later].touched_spans();
     let mut i = at;
     while i > start {
         i -= 1;
-        if let Some(hazard) = find_hazard(&touched(&pieces[i]), &waiting) {
+        if let Some(hazard) = find_hazard(&pieces[i].touched_spans(), &waiting) {
             reasons.push(Reason {
                 earlier: i,
                 later,
@@ -82,10 +80,10 @@ fn push_conflicts(
 ///
 /// # Errors
 /// [`AllocError`] at the first allocation that fails.
-pub(crate) fn reasons_of(
+pub(crate) fn reasons_of<P: Touching>(
     alloc: Global,
     fences: &[bool],
-    pieces: &[Descriptor],
+    pieces: &[P],
     start: usize,
     at: usize,
 ) -> Result<Vec<Reason>, AllocError>
@@ -93,7 +91,7 @@ pub(crate) fn reasons_of(
     requires few { length pieces.now ≤ most_pieces }
     requires fenced { IsFenced start fences.now at }
     ensures { IfOk result (λ reasons.
-        AreReasonsFor (map fields pieces.now) start fences.now at reasons.items) }
+        AreReasonsFor P.reads P.writes pieces.now start fences.now at reasons.items) }
 {
     let mut reasons = Vec::new(alloc);
     let end = next_fence(fences, start, at);

@@ -1,12 +1,11 @@
 //! The sentence of a fence, or of a group's beginning.
 
 ghost use Rattle.std.specs.Prelude.{◌≡◌, ◌++◌, [], IfOk, OnOk, Some, codes, slice_get, string_bytes, if◌then◌else◌};
-ghost use Rattle.dsa_reasons.specs.Sentences.{conflict_words, fence_words, first_conflict, is_in_record, kind_words, more_words, named, named_words, need_words, reason_words, record_of, record_words, sentence_words};
+ghost use Rattle.dsa_reasons.specs.Sentences.{conflict_words, fence_words, first_conflict, is_in_first, is_in_record, kind_words, more_words, named, named_words, need_words, reason_words, record_of, record_words, sentence_words};
 
 use crate::fences::Fence;
 use crate::reason::Reason;
-use dsa_descriptor::Descriptor;
-use dsa_ranges::HazardKind;
+use dsa_ranges::{HazardKind, Span, Touching};
 use std::alloc::{AllocError, Global};
 
 /// A conflict that a sentence names.
@@ -38,19 +37,29 @@ fn conflict_text(alloc: Global, reason: &Reason) -> Result<String, AllocError>
     format!(in alloc; "{later} after {earlier}, {kind} at 0x{address:x}")
 }
 
-/// Whether the address is one of the 32 of the piece's completion record.
-fn is_in_record(pieces: &[Descriptor], piece: usize, address: u64) -> bool
-    ensures { result ≡ is_in_record (slice_get pieces.now piece) address }
+/// Whether the address lies in the first of the spans.
+fn is_in_first(spans: &[Span], address: u64) -> bool
+    ensures { result ≡ is_in_first spans.now address }
+{
+    match spans {
+        [span, ..] => span.first <= address && address - span.first < span.len,
+        [] => false,
+    }
+}
+
+/// Whether the address is one of the piece's completion record, the first span that it writes.
+fn is_in_record<P: Touching>(pieces: &[P], piece: usize, address: u64) -> bool
+    ensures { result ≡ is_in_record P.writes (slice_get pieces.now piece) address }
 {
     match pieces.get(piece) {
-        Some(d) => d.record_at <= address && address - d.record_at < 32,
+        Some(piece) => is_in_first(piece.touched_spans().writes.as_slice(), address),
         None => false,
     }
 }
 
 /// The piece of a conflict whose completion record has the address, if one has; the earlier one if both have.
-pub fn record_of(pieces: &[Descriptor], reason: &Reason) -> Option<usize>
-    ensures { result ≡ record_of pieces.now reason.now }
+pub fn record_of<P: Touching>(pieces: &[P], reason: &Reason) -> Option<usize>
+    ensures { result ≡ record_of P.writes pieces.now reason.now }
 {
     if is_in_record(pieces, reason.earlier, reason.hazard.address) {
         Some(reason.earlier)
@@ -62,8 +71,8 @@ pub fn record_of(pieces: &[Descriptor], reason: &Reason) -> Option<usize>
 }
 
 /// A conflict of these pieces, with the piece whose record has its address.
-fn named(pieces: &[Descriptor], reason: &Reason) -> NamedConflict
-    ensures { result ≡ named pieces.now reason.now }
+fn named<P: Touching>(pieces: &[P], reason: &Reason) -> NamedConflict
+    ensures { result ≡ named P.writes pieces.now reason.now }
 {
     NamedConflict {
         reason: *reason,
@@ -72,8 +81,8 @@ fn named(pieces: &[Descriptor], reason: &Reason) -> NamedConflict
 }
 
 /// The first of the conflicts that a fence names, if it names one.
-pub fn first_conflict(pieces: &[Descriptor], fence: &Fence) -> Option<NamedConflict>
-    ensures { result ≡ first_conflict pieces.now fence.now.named.items }
+pub fn first_conflict<P: Touching>(pieces: &[P], fence: &Fence) -> Option<NamedConflict>
+    ensures { result ≡ first_conflict P.writes pieces.now fence.now.named.items }
 {
     match fence.named.get(0) {
         Some(reason) => Some(named(pieces, reason)),
@@ -102,12 +111,12 @@ fn named_text(alloc: Global, conflict: &NamedConflict) -> Result<String, AllocEr
 }
 
 /// The words of a conflict of these pieces that a fence separates.
-pub fn reason_text(
+pub fn reason_text<P: Touching>(
     alloc: Global,
-    pieces: &[Descriptor],
+    pieces: &[P],
     reason: &Reason,
 ) -> Result<String, AllocError>
-    ensures { IfOk result (λ s. string_bytes s ≡ reason_words pieces.now reason.now) }
+    ensures { IfOk result (λ s. string_bytes s ≡ reason_words P.writes pieces.now reason.now) }
 {
     named_text(alloc, &named(pieces, reason))
 }
@@ -182,8 +191,12 @@ pub fn sentence_text(
 ///
 /// # Errors
 /// [`AllocError`] at the first allocation that fails.
-pub fn fence_text(alloc: Global, pieces: &[Descriptor], fence: &Fence) -> Result<String, AllocError>
-    ensures { IfOk result (λ s. string_bytes s ≡ fence_words pieces.now fence.now) }
+pub fn fence_text<P: Touching>(
+    alloc: Global,
+    pieces: &[P],
+    fence: &Fence,
+) -> Result<String, AllocError>
+    ensures { IfOk result (λ s. string_bytes s ≡ fence_words P.writes pieces.now fence.now) }
 {
     sentence_text(
         alloc,

@@ -1,6 +1,5 @@
-use Rattle.std.proofs.Common.{ℕ, map, refl, subst}
+use Rattle.std.proofs.Common.{ℕ, refl, subst}
 use Rattle.std.proofs.lemmas.Result.{IfOk-weaker}
-use Rattle.dsa_descriptor.specs.Descriptors.{fields}
 use Rattle.dsa_explain.specs.declared.explanation.ExplainFault.TheVariants.{Memory}
 use Rattle.dsa_explain.specs.declared.waits.WaitsFault.{WaitsFault}
 use Rattle.dsa_explain.specs.declared.waits.WaitsFault.TheVariants.{Track}
@@ -16,8 +15,8 @@ pub returns-in-Err-Track : goal.returns-in-Err-Track
 returns-in-Err-Track c =
     both c.untracked.result _ _ _
     (λ a one words. is_untracked c.in-Err-Track.fault refl c.in_default.ensures.0
-    (subst (λ (n : ℕ). RefusesWaits n c.args.subject.now.plan.now (map fields c.args.subject.now.pieces.now) (Track c.in-Err-Track.fault)) c.staging.ensures.value
-    (subst (λ (f : WaitsFault). RefusesWaits c.staging.result c.args.subject.now.plan.now (map fields c.args.subject.now.pieces.now) f) c.in-Err-Track.field-0-is c.in-Err-Track.ensures)) one words)
+    (subst (λ (n : ℕ). RefusesWaits n c.args.subject.now.plan.now c.args.subject.now.pieces.now (Track c.in-Err-Track.fault)) c.staging.ensures.value
+    (subst (λ (f : WaitsFault). RefusesWaits c.staging.result c.args.subject.now.plan.now c.args.subject.now.pieces.now f) c.in-Err-Track.field-0-is c.in-Err-Track.ensures)) one words)
     c.untracked.ensures.status c.untracked.ensures.text
 
 pub returns-in-Err-Memory : goal.returns-in-Err-Memory

@@ -6,7 +6,7 @@ use Rattle.dsa_reasons.proofs.Fenced.{group_pushed}
 use Rattle.dsa_reasons.proofs.fences.fences_of.Goals as goal
 
 pub loop-group-preserved : goal.loop-group-preserved
-loop-group-preserved c =
+loop-group-preserved g c =
     let plan = c.groups-group-items.result.now in
     let i = c.loop-group.invariant in
     let here : slice_get plan c.loop-group.group-index ≡ Some c.group-item.result =

@@ -1,18 +1,16 @@
 use Rattle.std.proofs.Common.{ℕ, ◌<◌, ◌≤◌}
-use Rattle.std.specs.Prelude.{map}
-use Rattle.dsa_descriptor.specs.Descriptors.{fields}
 use Rattle.dsa_plan.specs.Legal.{IsFenced}
 use Rattle.dsa_reasons.specs.Reasons.{HasReasonsSoFar}
 use Rattle.dsa_reasons.proofs.reason.push_conflicts.Given as goal
 
 -- no piece from i on and before `at` is fenced, and each of them that conflicts with `later` has a reason
 abbrev pub invariant-loop-i : goal.invariant-loop-i
-invariant-loop-i l = record {
+invariant-loop-i g l = record {
   begun : l.start ≤ l.i;
   before : l.i ≤ l.at;
   open_here : (k : ℕ) → l.i ≤ k → k < l.at → ¬ IsFenced l.start l.fences k;
-  found : HasReasonsSoFar (map fields l.pieces) l.start l.fences l.at l.later l.i l.reasons.items;
+  found : HasReasonsSoFar g.P.Touching.reads g.P.Touching.writes l.pieces l.start l.fences l.at l.later l.i l.reasons.items;
 }
 
 abbrev pub decreases-loop-i : goal.decreases-loop-i
-decreases-loop-i l = l.i
+decreases-loop-i g l = l.i

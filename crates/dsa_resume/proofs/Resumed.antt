@@ -5,6 +5,7 @@ use Rattle.std.specs.Simd.{first_chunks}
 use Rattle.dsa_descriptor.specs.declared.descriptor.Descriptor.{Descriptor}
 use Rattle.dsa_descriptor.specs.Descriptors.{fields}
 use Rattle.dsa_plan.specs.Settings.{Limits}
+use Rattle.dsa_ranges.specs.Pieces.{writes_of}
 use Rattle.dsa_calls.specs.declared.fault.PlanFault.{PlanFault}
 use Rattle.dsa_calls.specs.declared.fault.PlanFault.TheVariants.{Memory}
 use Rattle.dsa_resume.specs.declared.fault.ResumeFault.{ResumeFault}
@@ -38,7 +39,7 @@ module _ (order : LeftOrder) (l : Stopped) where
   answer_records other = inr (lacks_records other refl)
 
   -- two pieces share a record
-  pub answer_shared : (i j : ℕ) → length l.records ≡ 32 * length l.pieces → IsFirstShared (map fields l.pieces) i j → IsAnswer (ResumesPieces order l) (Err (SharedRecord i j))
+  pub answer_shared : (i j : ℕ) → length l.records ≡ 32 * length l.pieces → IsFirstShared writes_of l.pieces i j → IsAnswer (ResumesPieces order l) (Err (SharedRecord i j))
   answer_shared i j count first = inr (shares_record i j count first refl)
 
   module _ (told : AreTold l) (completions : List (List ℕ)) (chunks : completions ≡ first_chunks 32 (length l.records / 32) l.records) where

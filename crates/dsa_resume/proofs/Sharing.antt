@@ -1,115 +1,99 @@
--- Pieces that share a record are those that conflict as compares which read where the pieces write data.
-use Rattle.std.proofs.Common.{◌≡◌, ◌⊎◌, inl, inr, ℕ, zero, suc, ◌*◌, ◌<◌, ◌≤◌, List, [], ◌∷◌, length, get_or, map, Option, Some, None, slice_get, refl, sym, ap, ◌∙◌, subst, arith}
+-- Pieces share a record where what they write conflicts, if the data is read and the record is written.
+use Rattle.std.proofs.Common.{◌≡◌, ◌⊎◌, inl, inr, ℕ, zero, suc, ◌<◌, ◌≤◌, List, [], ◌∷◌, length, get_or, map, take, drop, Option, Some, None, slice_get, refl, sym, ap, ◌∙◌, subst, arith}
 use Rattle.std.specs.Prelude.{option_map}
 use Rattle.std.proofs.lemmas.Bool.{cases_lt}
 use Rattle.std.proofs.lemmas.List.{length-map}
-use Rattle.std.proofs.lemmas.Option.{same_Some, slice_get-map, slice_get-get_or, slice_get_read, slice_get_within, get_or_from_slice_get}
-use Rattle.dsa_descriptor.specs.declared.descriptor.Descriptor.{Descriptor}
-use Rattle.dsa_descriptor.specs.declared.op.Op.{Op}
-use Rattle.dsa_descriptor.specs.declared.op.Op.TheVariants.{Move, Fill, Compare, ComparePattern, ApplyDelta, Dualcast}
-use Rattle.dsa_descriptor.specs.Data.{record_span, sources, targets}
-use Rattle.dsa_descriptor.specs.Descriptors.{fields}
-use Rattle.dsa_descriptor.specs.Fields.{Fields}
-use Rattle.dsa_descriptor.specs.Spans.{InSome, InSpan, span}
-use Rattle.dsa_ranges.specs.Ranges.{ConflictAt, Conflicts, Touches, Writes}
-use Rattle.dsa_plan.specs.Settings.{Limits}
-use Rattle.dsa_calls.specs.Planned.{CanBePlanned}
-use Rattle.dsa_conflicts.specs.Last.{HasLasts, IsLast}
-use Rattle.dsa_resume.specs.Shared.{FindsFirst, FindsShared, HaveLastShared, IsLastShared, IsSpare, SharesAt, SharesRecord, WritesRecordOf, reading, reading_op, reading_size}
+use Rattle.std.proofs.lemmas.Option.{same_Some, slice_get-map, slice_get-get_or, slice_get_within}
+use Rattle.dsa_descriptor.specs.declared.span.Span.{Span}
+use Rattle.dsa_descriptor.specs.Spans.{InSome, InSpan}
+use Rattle.dsa_ranges.specs.Ranges.{SpansConflict, WritesInto}
+use Rattle.dsa_conflicts.specs.Last.{HasLastsBy, IsLastBy}
+use Rattle.dsa_resume.specs.declared.shared.Written.{Written}
+use Rattle.dsa_resume.specs.Shared.{FindsFirst, FindsShared, HaveLastShared, IsLastShared, ShareRecord, SharesAt, WriteRecordOf, WrittenConflictAt, first_of, spans_in}
 
--- ---- two conflict exactly if their pieces share a record
+-- ---- of two lists of spans
 
-reads_either : (spare : ℕ) (op : Op) (size a : ℕ) → InSome (sources (reading_op spare op) (reading_size op size)) a → InSome (targets op size) a ⊎ (a ≡ spare)
-reads_either spare (Move src dst) size a h = inl h
-reads_either spare (Fill pattern dst) size a h = inl h
-reads_either spare (Compare src src2 expected) size a (inl h) = inr (omega (arith, h.0, h.1))
-reads_either spare (Compare src src2 expected) size a (inr none) = absurd none
-reads_either spare (ComparePattern src pattern expected) size a (inl h) = inr (omega (arith, h.0, h.1))
-reads_either spare (ComparePattern src pattern expected) size a (inr none) = absurd none
-reads_either spare (ApplyDelta delta dst record_size) size a h = inl h
-reads_either spare (Dualcast src dst dst2) size a h = inl h
+in_parts : (ss : List Span) (a : ℕ) → InSome ss a → InSome (drop 1 ss) a ⊎ InSome (take 1 ss) a
+in_parts [] a h = absurd h
+in_parts (s ∷ ss) a (inl here) = inr (inl here)
+in_parts (s ∷ ss) a (inr further) = inl further
 
-reads_targets : (spare : ℕ) (op : Op) (size a : ℕ) → InSome (targets op size) a → InSome (sources (reading_op spare op) (reading_size op size)) a
-reads_targets spare (Move src dst) size a h = h
-reads_targets spare (Fill pattern dst) size a h = h
-reads_targets spare (Compare src src2 expected) size a h = absurd h
-reads_targets spare (ComparePattern src pattern expected) size a h = absurd h
-reads_targets spare (ApplyDelta delta dst record_size) size a h = h
-reads_targets spare (Dualcast src dst dst2) size a h = h
+in_whole : (ss : List Span) (a : ℕ) → InSome (drop 1 ss) a ⊎ InSome (take 1 ss) a → InSome ss a
+in_whole [] a (inl h) = absurd h
+in_whole [] a (inr h) = absurd h
+in_whole (s ∷ ss) a (inl further) = inr further
+in_whole (s ∷ ss) a (inr (inl here)) = inl here
+in_whole (s ∷ ss) a (inr (inr none)) = absurd none
 
-writes_none : (spare : ℕ) (op : Op) (size a : ℕ) → InSome (targets (reading_op spare op) size) a → ⊥
-writes_none spare (Move src dst) size a h = h
-writes_none spare (Fill pattern dst) size a h = h
-writes_none spare (Compare src src2 expected) size a h = h
-writes_none spare (ComparePattern src pattern expected) size a h = h
-writes_none spare (ApplyDelta delta dst record_size) size a h = h
-writes_none spare (Dualcast src dst dst2) size a h = h
+in_first : (ss : List Span) (a : ℕ) → InSome (take 1 ss) a → InSpan (first_of ss) a
+in_first [] a h = absurd h
+in_first (s ∷ ss) a (inl here) = here
+in_first (s ∷ ss) a (inr none) = absurd none
 
-module _ (spare : ℕ) (d e : Fields) (off : InSpan (record_span e.record_at) spare → ⊥) where
-  -- e's compare writes what d's reads or writes
-  from_into : (a : ℕ) → Writes (reading spare e) a → InSome (sources (reading_op spare d.op) (reading_size d.op d.size)) a ⊎ Writes (reading spare d) a → WritesRecordOf d e
-  from_into a (inr data_there) touched = absurd (writes_none spare e.op (reading_size e.op e.size) a data_there)
-  from_into a (inl inside) (inr (inl own)) = (a, inl own, inside)
-  from_into a (inl inside) (inr (inr data_there)) = absurd (writes_none spare d.op (reading_size d.op d.size) a data_there)
-  from_into a (inl inside) (inl reads) = elim (reads_either spare d.op d.size a reads) [
-    | inl there ↦ (a, inr there, inside)
-    | inr is ↦ absurd (off (subst (λ (x : ℕ). InSpan (record_span e.record_at) x) is inside))
-  ]
+first_in : (ss : List Span) (a : ℕ) → InSpan (first_of ss) a → InSome (take 1 ss) a
+first_in [] a h = absurd (omega (arith, h.0, h.1))
+first_in (s ∷ ss) a h = inl h
 
-conflict_shares : (spare : ℕ) (d e : Fields) → (InSpan (record_span d.record_at) spare → ⊥) → (InSpan (record_span e.record_at) spare → ⊥)
-    → Conflicts (reading spare d) (reading spare e) → SharesRecord d e
-conflict_shares spare d e off_d off_e (inl (a, writes, touched)) = inr (from_into spare e d off_d a writes touched)
-conflict_shares spare d e off_d off_e (inr (a, writes, touched)) = inl (from_into spare d e off_e a writes touched)
+-- one writes its record into what the other reads or writes where the other writes into its record
+into_record : (ss ts : List Span) → WritesInto (take 1 ts) (drop 1 ss) (take 1 ss) → WriteRecordOf ss ts
+into_record ss ts (a, inside, touched) = (a, in_whole ss a touched, in_first ts a inside)
 
-into_record : (spare : ℕ) (d e : Fields) (a : ℕ) → Writes d a → InSome (sources (reading_op spare d.op) (reading_size d.op d.size)) a ⊎ Writes (reading spare d) a
-into_record spare d e a (inl own) = inr (inl own)
-into_record spare d e a (inr data_there) = inl (reads_targets spare d.op d.size a data_there)
+record_into : (ss ts : List Span) → WriteRecordOf ss ts → WritesInto (take 1 ts) (drop 1 ss) (take 1 ss)
+record_into ss ts (a, written, inside) = (a, first_in ts a inside, in_parts ss a written)
 
-shares_conflict : (spare : ℕ) (d e : Fields) → SharesRecord d e → Conflicts (reading spare d) (reading spare e)
-shares_conflict spare d e (inl (a, writes, inside)) = inr (a, inl inside, into_record spare d e a writes)
-shares_conflict spare d e (inr (a, writes, inside)) = inl (a, inl inside, into_record spare e d a writes)
+conflict_shares : (ss ts : List Span) → SpansConflict (drop 1 ss) (take 1 ss) (drop 1 ts) (take 1 ts) → ShareRecord ss ts
+conflict_shares ss ts (inl h) = inr (into_record ts ss h)
+conflict_shares ss ts (inr h) = inl (into_record ss ts h)
+
+shares_conflict : (ss ts : List Span) → ShareRecord ss ts → SpansConflict (drop 1 ss) (take 1 ss) (drop 1 ts) (take 1 ts)
+shares_conflict ss ts (inl h) = inr (record_into ss ts h)
+shares_conflict ss ts (inr h) = inl (record_into ts ss h)
 
 -- ---- in a list
 
--- a piece of the compares is that of a piece
-piece_of : (spare : ℕ) (qs : List Fields) (i : ℕ) (g : Fields) → slice_get (map (reading spare) qs) i ≡ Some g → (f : Fields) × (slice_get qs i ≡ Some f) × (reading spare f ≡ g)
-piece_of spare [] i g there = absurd cc
-piece_of spare (q ∷ qs) zero g there = (q, refl, same_Some (reading spare q) g there)
-piece_of spare (q ∷ qs) (suc i) g there = piece_of spare qs i g there
+-- what is at a place of a list that is made of another
+made_of : {A B : Type 0} (f : A → B) (xs : List A) (k : ℕ) (y : B) → slice_get (map f xs) k ≡ Some y → (x : A) × (slice_get xs k ≡ Some x) × (f x ≡ y)
+made_of f [] k y e = cc
+made_of f (x ∷ xs) zero y e = (x, refl, same_Some (f x) y e)
+made_of f (x ∷ xs) (suc k) y e = made_of f xs k y e
 
-module _ (spare : ℕ) (ps : List Fields) (off : IsSpare spare ps) where
-  to_shared : (i j : ℕ) → ConflictAt (map (reading spare) ps) i j → SharesAt ps i j
-  to_shared i j (d, e, at_i, at_j, conflict) =
-      let (f, there, is) = piece_of spare ps i d at_i in
-      let (g, there', is') = piece_of spare ps j e at_j in (
-        f,
-        g,
-        there,
-        there',
-        conflict_shares spare f g (off i f there) (off j g there')
-            (subst (λ (x : Fields). Conflicts (reading spare f) x) (sym is') (subst (λ (x : Fields). Conflicts x e) (sym is) conflict)),
+-- of two lists that are seen alike what the one has at a place is seen as what the other has there
+alike_at : {A B C : Type 0} (f : A → C) (g : B → C) (xs : List A) (ys : List B) → map f xs ≡ map g ys → (k : ℕ) (x : A) → slice_get xs k ≡ Some x → (y : B) × (slice_get ys k ≡ Some y) × (g y ≡ f x)
+alike_at f g xs ys same k x at =
+    let there : slice_get (map f xs) k ≡ Some (f x) = slice_get-map f xs k ∙ ap (option_map f) at in
+    made_of g ys k (f x) (subst (λ zs. slice_get zs k ≡ Some (f x)) same there)
+
+module _ {P : Type 0} (writes : P → List Span) (ps : List P) (all : List Written) (same : map spans_in all ≡ map writes ps) where
+  to_shared : (i j : ℕ) → WrittenConflictAt all i j → SharesAt writes ps i j
+  to_shared i j (v, w, at_i, at_j, conflict) =
+      let p = alike_at spans_in writes all ps same i v at_i in
+      let q = alike_at spans_in writes all ps same j w at_j in
+      let share : ShareRecord (spans_in v) (spans_in w) = conflict_shares (spans_in v) (spans_in w) conflict in (
+        p.0,
+        q.0,
+        p.1,
+        q.1,
+        subst (λ (ss : List Span). ShareRecord ss (writes q.0)) (sym p.2) (subst (λ (ss : List Span). ShareRecord (spans_in v) ss) (sym q.2) share),
       )
 
-  to_conflict : (i j : ℕ) → SharesAt ps i j → ConflictAt (map (reading spare) ps) i j
-  to_conflict i j (d, e, at_i, at_j, shares) = (
-    reading spare d,
-    reading spare e,
-    slice_get-map (reading spare) ps i ∙ ap (option_map (reading spare)) at_i,
-    slice_get-map (reading spare) ps j ∙ ap (option_map (reading spare)) at_j,
-    shares_conflict spare d e shares,
-  )
+  to_conflict : (i j : ℕ) → SharesAt writes ps i j → WrittenConflictAt all i j
+  to_conflict i j (p, q, at_i, at_j, share) =
+      let v = alike_at writes spans_in ps all (sym same) i p at_i in
+      let w = alike_at writes spans_in ps all (sym same) j q at_j in
+      let seen : ShareRecord (spans_in v.0) (spans_in w.0) = subst (λ (ss : List Span). ShareRecord ss (spans_in w.0)) (sym v.2) (subst (λ (ss : List Span). ShareRecord (writes p) ss) (sym w.2) share) in
+      (v.0, w.0, v.1, w.1, shares_conflict (spans_in v.0) (spans_in w.0) seen)
 
-  module _ (few : length ps ≤ 65536) (lasts : List (Option ℕ)) (has : HasLasts (map (reading spare) ps) 65536 lasts) where
+  module _ (few : length ps ≤ 65536) (lasts : List (Option ℕ)) (has : HasLastsBy (WrittenConflictAt all) (length all) 65536 lasts) where
     -- a place without an index shares with none before it
-    alone : (y : ℕ) → slice_get lasts y ≡ Some None → (x : ℕ) → x < y → SharesAt ps x y → ⊥
+    alone : (y : ℕ) → slice_get lasts y ≡ Some None → (x : ℕ) → x < y → SharesAt writes ps x y → ⊥
     alone y there x less shares =
         let inside : y < length ps = slice_get_within ps y shares.1 shares.3 in
         has.each y None there x (record { before = less; within = omega (arith, inside, few); conflict = to_conflict x y shares })
 
-    each_last : (j : ℕ) (last : Option ℕ) → slice_get lasts j ≡ Some last → IsLastShared ps j last
+    each_last : (j : ℕ) (last : Option ℕ) → slice_get lasts j ≡ Some last → IsLastShared writes ps j last
     each_last j None there = λ i less shares. alone j there i less shares
     each_last j (Some i) there =
-        let last : IsLast (map (reading spare) ps) 65536 j (Some i) = has.each j (Some i) there in (
+        let last : IsLastBy (WrittenConflictAt all) 65536 j (Some i) = has.each j (Some i) there in (
           last.0.before,
           to_shared i j last.0.conflict,
           λ x less shares.
@@ -117,21 +101,21 @@ module _ (spare : ℕ) (ps : List Fields) (off : IsSpare spare ps) where
               last.1 x (record { before = less; within = omega (arith, inside, few); conflict = to_conflict x j shares }),
         )
 
-    pub lasts_shared : HaveLastShared ps lasts
-    lasts_shared = record { count = has.count ∙ length-map ps (reading spare); each = each_last }
+    pub lasts_shared : HaveLastShared writes ps lasts
+    lasts_shared = record { count = has.count ∙ (sym (length-map all spans_in) ∙ (ap length same ∙ length-map ps writes)); each = each_last }
 
 -- the first place that has an index has the first two pieces that share
-module _ (ps : List Fields) (lasts : List (Option ℕ)) (has : HaveLastShared ps lasts) where
+module _ {P : Type 0} (writes : P → List Span) (ps : List P) (lasts : List (Option ℕ)) (has : HaveLastShared writes ps lasts) where
   last_of : (y : ℕ) → y < length ps → slice_get lasts y ≡ Some (get_or lasts y None)
   last_of y inside = slice_get-get_or lasts y None (omega (arith, has.count, inside))
 
-  pub found : (o : Option (ℕ × ℕ)) → FindsFirst lasts o → FindsShared ps o
+  pub found : (o : Option (ℕ × ℕ)) → FindsFirst lasts o → FindsShared writes ps o
   found None none = λ i j less shares.
       let inside : j < length ps = slice_get_within ps j shares.1 shares.3 in
       let at_j = last_of j inside in
       has.each j None (at_j ∙ ap Some (none j (get_or lasts j None) at_j)) i less shares
   found (Some p) (here, before) =
-      let last : IsLastShared ps p.1 (Some p.0) = has.each p.1 (Some p.0) here in
+      let last : IsLastShared writes ps p.1 (Some p.0) = has.each p.1 (Some p.0) here in
       record {
         before = last.0;
         shares = last.1;
@@ -144,15 +128,3 @@ module _ (ps : List Fields) (lasts : List (Option ℕ)) (has : HaveLastShared ps
         ];
         greatest = λ x less shares. last.2 x less shares;
       }
-
--- the first byte of the staging area is in no record of pieces that can be planned
-pub staging_is_spare : (s : Limits) (ps : List Fields) → CanBePlanned s ps → IsSpare s.staging ps
-staging_is_spare s ps can i f there inside =
-    let within : i < length ps = slice_get_within ps i f there in
-    let clear : (a : ℕ) → InSpan (span s.staging (96 * length ps)) a → ¬ Touches f a =
-    subst (λ (e : Fields). (a : ℕ) → InSpan (span s.staging (96 * length ps)) a → ¬ Touches e a) (get_or_from_slice_get ps i f f there) (can.clear i f within) in
-    clear s.staging (omega arith, omega (arith, within)) (inr (inl inside))
-
--- the piece at a place, by what indexing answers
-pub piece_there : (ds : List Descriptor) (k : ℕ) (d : Descriptor) → k < length ds → d ≡ get_or ds k d → slice_get (map fields ds) k ≡ Some (fields d)
-piece_there ds k d within is = slice_get-map fields ds k ∙ ap (option_map fields) (slice_get_read ds (length ds) k d refl within is)

@@ -5,7 +5,7 @@ use Rattle.std.proofs.lemmas.Bool.{cases_order, eqb-false, eqb-true}
 use Rattle.dsa_descriptor.specs.Data.{record_span}
 use Rattle.dsa_descriptor.specs.Fields.{Fields}
 use Rattle.dsa_descriptor.specs.Spans.{InSpan}
-use Rattle.dsa_ranges.specs.Ranges.{Writes}
+use Rattle.dsa_ranges.specs.Ranges.{Writes, written_spans}
 use Rattle.dsa_resume.specs.Shared.{NoneShare}
 use Rattle.dsa_resume.specs.Stores.{RecordsAreTheirOwn, Store, byte_after, stores_for}
 
@@ -17,7 +17,7 @@ one_more false true i a byte s ss eo eh other so_far = absurd (other refl refl)
 one_more false false i a byte s ss eo eh other so_far = rw (eo, eh) (so_far byte)
 
 -- a store for another piece into the record of this one
-module _ (pieces : List Fields) (none : NoneShare pieces) (i j a : ℕ) (d e : Fields) (at_i : slice_get pieces i ≡ Some d) (at_j : slice_get pieces j ≡ Some e) where
+module _ (pieces : List Fields) (none : NoneShare written_spans pieces) (i j a : ℕ) (d e : Fields) (at_i : slice_get pieces i ≡ Some d) (at_j : slice_get pieces j ≡ Some e) where
   no_other : (i ≡ j → ⊥) → Writes e a → InSpan (record_span d.record_at) a → ⊥
   no_other apart writes inside =
       elim (cases_order i j) [

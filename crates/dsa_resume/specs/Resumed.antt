@@ -6,6 +6,7 @@ use Rattle.dsa_descriptor.specs.Descriptors.{fields}
 use Rattle.dsa_descriptor.specs.Fences.{after_first, marked_spelling, set_marks}
 use Rattle.dsa_descriptor.specs.Fields.{Fields}
 use Rattle.dsa_descriptor.specs.Lists.{HaveOneOwner}
+use Rattle.dsa_ranges.specs.Pieces.{writes_of}
 use Rattle.dsa_plan.specs.Settings.{Limits}
 use Rattle.dsa_splitter.specs.Pieces.{all_pieces, piece_barriers}
 use Rattle.dsa_splitter.specs.Rules.{AreWhole, IsSplit}
@@ -43,14 +44,14 @@ ends_in l = ends_of (completions_of l) l.given_up
 -- there are 32 bytes of records for each piece, and each record says how its own piece has ended
 pub record AreTold (l : Stopped) : Type 0 where
   pub count : length l.records ≡ 32 * length l.pieces
-  pub own : NoneShare (map fields l.pieces)
+  pub own : NoneShare writes_of l.pieces
 
 -- The outcome: that there are not 32 bytes of records for each piece; the first two pieces that share a record; the first
 -- piece that is given up though it has not failed; the first piece that has begun though a barrier before it holds; or
 -- what is left.
 pub data ResumesPieces (order : LeftOrder) (l : Stopped) (outcome : Result Remainder ResumeFault) : Type 0 where
   lacks_records : length l.records ≢ 32 * length l.pieces → outcome ≡ Err Records → ResumesPieces order l outcome
-  shares_record : (i j : ℕ) → length l.records ≡ 32 * length l.pieces → IsFirstShared (map fields l.pieces) i j
+  shares_record : (i j : ℕ) → length l.records ≡ 32 * length l.pieces → IsFirstShared writes_of l.pieces i j
       → outcome ≡ Err (SharedRecord i j) → ResumesPieces order l outcome
   gives_up_other : (i : ℕ) → AreTold l → IsFirstIdle (completions_of l) l.given_up i
       → outcome ≡ Err (NotFailed i) → ResumesPieces order l outcome

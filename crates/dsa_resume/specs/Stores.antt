@@ -3,7 +3,7 @@ use Rattle.std.specs.Prelude.{◌≡◌, ◌==◌, ℕ, List, [], ◌∷◌, Som
 use Rattle.dsa_descriptor.specs.Data.{record_span}
 use Rattle.dsa_descriptor.specs.Fields.{Fields}
 use Rattle.dsa_descriptor.specs.Spans.{InSpan}
-use Rattle.dsa_ranges.specs.Ranges.{Writes}
+use Rattle.dsa_ranges.specs.Ranges.{Writes, written_spans}
 use Rattle.dsa_resume.specs.Shared.{NoneShare}
 
 -- a byte that an engine stores while it does the piece of this number
@@ -31,6 +31,6 @@ stores_for piece (s ∷ ss) = if s.piece == piece then s ∷ stores_for piece ss
 -- if nothing was stored for the piece, and else what its engine has written there.
 abbrev pub RecordsAreTheirOwn : Type 0
 RecordsAreTheirOwn =
-    (pieces : List Fields) (stores : List Store) → NoneShare pieces → AreStoresOf pieces stores
+    (pieces : List Fields) (stores : List Store) → NoneShare written_spans pieces → AreStoresOf pieces stores
     → (i : ℕ) (d : Fields) (address byte : ℕ) → slice_get pieces i ≡ Some d → InSpan (record_span d.record_at) address
     → byte_after stores address byte ≡ byte_after (stores_for i stores) address byte

@@ -99,8 +99,7 @@ fn resume_pieces(
     if records.len() != 32 * pieces.descriptors.len() {
         return Err(ResumeFault::Records);
     }
-    // no piece touches the staging area, so its first byte is in no record
-    match first_shared(alloc, &pieces.descriptors, settings.staging()) {
+    match first_shared(alloc, &pieces.descriptors) {
         Ok(Some((i, j))) => return Err(ResumeFault::SharedRecord(i, j)),
         Ok(None) => {}
         Err(_) => return Err(ResumeFault::Plan(PlanFault::Memory)),

@@ -1,101 +1,65 @@
 //! Pieces of which one writes into the completion record of the other.
 
-ghost use Rattle.std.specs.Prelude.{◌≡◌, ◌≤◌, ◌++◌, IfOk, length, map};
-ghost use Rattle.dsa_descriptor.specs.Data.{record_span};
-ghost use Rattle.dsa_descriptor.specs.Descriptors.{fields};
+ghost use Rattle.std.specs.Prelude.{◌≡◌, ◌≤◌, IfOk, length, map};
 ghost use Rattle.dsa_descriptor.specs.Pieces.{most_pieces};
-ghost use Rattle.dsa_descriptor.specs.Spans.{InSpan};
-ghost use Rattle.dsa_resume.specs.Shared.{FindsFirst, FindsShared, HaveLastShared, IsSpare, reading, reading_op, reading_size};
+ghost use Rattle.dsa_resume.specs.Shared.{FindsFirst, FindsShared, HaveLastShared, spans_in};
 
-use dsa_conflicts::last_conflicts;
-use dsa_descriptor::{Descriptor, FlagWord, MOST_PIECES, Op};
+use arrayvec::ArrayVec;
+use dsa_conflicts::last_conflicts_of;
+use dsa_descriptor::MOST_PIECES;
+use dsa_ranges::{Piece, Span, Touched, Touching};
 use std::alloc::{AllocError, Global};
 
-/// A compare that reads where the operation writes data; if it writes none, the spare byte.
-fn reading_op(op: &Op, spare: u64) -> Op
-    ensures { result ≡ reading_op spare op.now }
-{
-    let (expected, pattern) = (0, 0);
-    match *op {
-        Op::Move { dst, .. } | Op::Fill { dst, .. } | Op::ApplyDelta { dst, .. } => {
-            Op::ComparePattern {
-                src: dst,
-                pattern,
-                expected,
-            }
-        }
-        Op::Compare { .. } | Op::ComparePattern { .. } => Op::ComparePattern {
-            src: spare,
-            pattern,
-            expected,
-        },
-        Op::Dualcast { dst, dst2, .. } => Op::Compare {
-            src: dst,
-            src2: dst2,
-            expected,
-        },
+/// What a piece writes, as what reads its data and writes its record: two such conflict exactly if one of the pieces
+/// writes into the record of the other.
+#[derive(Drop)]
+struct Written {
+    spans: ArrayVec<Span, 3>,
+}
+
+impl Touching for Written {
+    ghost use Rattle.dsa_resume.specs.Shared.{WrittenConflictAt, data_in, record_in};
+
+    ghost reads = { data_in };
+
+    ghost writes = { record_in };
+
+    ghost conflict = { WrittenConflictAt };
+
+    fn conflict_as_touched() {}
+
+    fn touched_spans(&self) -> Touched {
+        let (record, data) = self.spans.split_at(1usize.min(self.spans.len()));
+        let (mut reads, mut writes) = (ArrayVec::new(), ArrayVec::new());
+        reads.try_extend_from_slice(data).unwrap();
+        writes.try_extend_from_slice(record).unwrap();
+        Touched { reads, writes }
     }
 }
 
-/// How many bytes that compare reads.
-fn reading_size(d: &Descriptor) -> u32
-    ensures { result ≡ reading_size d.now.op d.now.size }
-{
-    match d.op {
-        Op::Compare { .. } | Op::ComparePattern { .. } => 1,
-        Op::Move { .. } | Op::Fill { .. } | Op::ApplyDelta { .. } | Op::Dualcast { .. } => d.size,
-    }
-}
-
-/// The piece as one that reads where it writes data, and writes its record alone.
-fn reading(d: &Descriptor, spare: u64) -> Descriptor
-    requires { ¬ InSpan (record_span d.now.record_at) spare }
-    ensures { fields result ≡ reading spare (fields d.now) }
-{
-    Descriptor {
-        pasid: d.pasid,
-        privileged: d.privileged,
-        flags: FlagWord(0x00_000c),
-        record_at: d.record_at,
-        size: reading_size(d),
-        int_handle: d.int_handle,
-        op: reading_op(&d.op, spare),
-    }
-}
-
-/// All pieces so.
-fn all_reading(
-    alloc: Global,
-    pieces: &[Descriptor],
-    spare: u64,
-) -> Result<Vec<Descriptor>, AllocError>
-    requires { IsSpare spare (map fields pieces.now) }
-    ensures { IfOk result
-        (λ all. map fields all.items ≡ map (reading spare) (map fields pieces.now)) }
+/// What each piece writes.
+fn all_written<P: Piece>(alloc: Global, pieces: &[P]) -> Result<Vec<Written>, AllocError>
+    ensures { IfOk result (λ all. map spans_in all.items ≡ map P.writes pieces.now) }
 {
     let mut all = Vec::with_capacity(alloc, pieces.len())?;
-    for k in 0..pieces.len() {
-        all.push(reading(&pieces[k], spare))?;
+    for piece in pieces {
+        all.push(Written {
+            spans: piece.touched_spans().writes,
+        })?;
     }
     Ok(all)
 }
 
-/// For each piece the last one before it with which it shares a record, if there is one. The spare byte is in no
-/// record.
+/// For each piece the last one before it with which it shares a record, if there is one.
 ///
 /// # Errors
 /// [`AllocError`] at the first allocation that fails.
-pub fn last_shared(
-    alloc: Global,
-    pieces: &[Descriptor],
-    spare: u64,
-) -> Result<Vec<Option<u32>>, AllocError>
-    requires few { length pieces.now ≤ most_pieces }
-    requires spare { IsSpare spare (map fields pieces.now) }
-    ensures { IfOk result (λ lasts. HaveLastShared (map fields pieces.now) lasts.items) }
+pub fn last_shared<P: Piece>(alloc: Global, pieces: &[P]) -> Result<Vec<Option<u32>>, AllocError>
+    requires { length pieces.now ≤ most_pieces }
+    ensures { IfOk result (λ lasts. HaveLastShared P.writes pieces.now lasts.items) }
 {
-    let all = all_reading(alloc, pieces, spare)?;
-    let lasts = last_conflicts(alloc, &all, MOST_PIECES as u32)?;
+    let all = all_written(alloc, pieces)?;
+    let lasts = last_conflicts_of(alloc, &all, MOST_PIECES as u32)?;
     Ok(lasts)
 }
 
@@ -111,17 +75,14 @@ fn first_pair(lasts: &[Option<u32>]) -> Option<(usize, usize)>
     None
 }
 
-/// The first two pieces that share a record: the least second one, and for it the greatest first one. The spare byte
-/// is in no record.
-pub(crate) fn first_shared(
+/// The first two pieces that share a record: the least second one, and for it the greatest first one.
+pub(crate) fn first_shared<P: Piece>(
     alloc: Global,
-    pieces: &[Descriptor],
-    spare: u64,
+    pieces: &[P],
 ) -> Result<Option<(usize, usize)>, AllocError>
-    requires few { length pieces.now ≤ most_pieces }
-    requires spare { IsSpare spare (map fields pieces.now) }
-    ensures { IfOk result (FindsShared (map fields pieces.now)) }
+    requires { length pieces.now ≤ most_pieces }
+    ensures { IfOk result (FindsShared P.writes pieces.now) }
 {
-    let lasts = last_shared(alloc, pieces, spare)?;
+    let lasts = last_shared(alloc, pieces)?;
     Ok(first_pair(&lasts))
 }

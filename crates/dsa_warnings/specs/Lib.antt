@@ -1,3 +1,4 @@
+pub mod Concerned
 pub mod Concerns
 pub mod Warnings
 pub mod Sentences

@@ -1,7 +1,7 @@
 -- What is worth a warning about the pieces of a plan (this project's choice).
-use Rattle.std.specs.Prelude.{◌≡◌, ℕ, suc, ◌+◌, ◌<◌, ◌==◌, ◌&&◌, nat_lt, Bool, List, [], ◌∷◌, ◌++◌, length, map, slice_get, slice_index_or, Option, Some, None, if◌then◌else◌}
+use Rattle.std.specs.Prelude.{◌≡◌, ℕ, suc, ◌+◌, ◌<◌, ◌==◌, ◌&&◌, nat_lt, Bool, List, [], ◌∷◌, ◌++◌, length, slice_get, slice_index_or, Option, Some, None, if◌then◌else◌}
 use Rattle.dsa_descriptor.specs.declared.descriptor.Descriptor.{Descriptor}
-use Rattle.dsa_descriptor.specs.Descriptors.{fields}
+use Rattle.dsa_descriptor.specs.declared.span.Span.{Span}
 use Rattle.dsa_settings.specs.Epochs.{epoch_of}
 use Rattle.dsa_plan.specs.Plan.{Plan, piece_count}
 use Rattle.dsa_resume.specs.Shared.{HaveLastShared}
@@ -29,29 +29,35 @@ abbrev pub with_piece : ℕ → Option Concern → List Warning
 with_piece piece None = []
 with_piece piece (Some concern) = record { piece = piece; concern = concern } ∷ []
 
+-- what is worth a warning about a piece by itself, if it is one of the operations of a descriptor; about no other piece
+-- (this project's choice: the result of a checksum stops nothing, and its destination never meets what it reads)
+abbrev pub own_warnings : ℕ → Bool → Bool → Option Descriptor → List Warning
+own_warnings piece before_barrier goes None = []
+own_warnings piece before_barrier goes (Some d) =
+    with_piece piece (check_concern d.op d.flags.0 before_barrier goes) ++ with_piece piece (overlap_concern d.op d.size)
+
 -- all that is worth a warning about a piece, by the last earlier piece with which it shares a record, whether a barrier is
 -- after it, and whether its epoch goes on
-abbrev pub warnings_at : ℕ → Option ℕ → Bool → Bool → Descriptor → List Warning
-warnings_at piece last before_barrier goes d =
-    with_piece piece (shared_concern last)
-    ++ (with_piece piece (check_concern d.op d.flags.0 before_barrier goes) ++ with_piece piece (overlap_concern d.op d.size))
+abbrev pub warnings_at : ℕ → Option ℕ → Bool → Bool → Option Descriptor → List Warning
+warnings_at piece last before_barrier goes d = with_piece piece (shared_concern last) ++ own_warnings piece before_barrier goes d
 
--- the same of pieces from this one on
-abbrev pub warnings_from : List (Option ℕ) → ℕ → List ℕ → ℕ → List Descriptor → List Warning
-warnings_from lasts barrier epochs piece [] = []
-warnings_from lasts barrier epochs piece (d ∷ ds) =
-    warnings_at piece (slice_index_or lasts piece None) (nat_lt piece barrier) (goes_on epochs piece) d
-    ++ warnings_from lasts barrier epochs (suc piece) ds
+-- the same of pieces from this one on, of a kind of which these are operations of a descriptor
+abbrev pub warnings_from : {P : Type 0} → (P → Option Descriptor) → List (Option ℕ) → ℕ → List ℕ → ℕ → List P → List Warning
+warnings_from descriptor lasts barrier epochs piece [] = []
+warnings_from descriptor lasts barrier epochs piece (p ∷ ps) =
+    warnings_at piece (slice_index_or lasts piece None) (nat_lt piece barrier) (goes_on epochs piece) (descriptor p)
+    ++ warnings_from descriptor lasts barrier epochs (suc piece) ps
 
 -- the epochs of the pieces of a plan
 pub record AreEpochs (plan : Plan) (epochs : List ℕ) : Type 0 where
   pub count : length epochs ≡ piece_count plan
   pub each : (i : ℕ) → i < piece_count plan → slice_get epochs i ≡ Some (epoch_of plan i)
 
--- the warnings of a plan of pieces and their barriers
-pub record AreWarnings (pieces : List Descriptor) (barriers : List Bool) (plan : Plan) (warnings : List Warning) : Type 0 where
+-- the warnings of a plan of pieces and their barriers, by what each writes, and which operation of a descriptor it is
+pub record AreWarnings {P : Type 0} (writes : P → List Span) (descriptor : P → Option Descriptor)
+    (pieces : List P) (barriers : List Bool) (plan : Plan) (warnings : List Warning) : Type 0 where
   pub lasts : List (Option ℕ)
-  pub shared : HaveLastShared (map fields pieces) lasts
+  pub shared : HaveLastShared writes pieces lasts
   pub epochs : List ℕ
   pub are_epochs : AreEpochs plan epochs
-  pub are : warnings ≡ warnings_from lasts (last_barrier 0 0 barriers) epochs 0 pieces
+  pub are : warnings ≡ warnings_from descriptor lasts (last_barrier 0 0 barriers) epochs 0 pieces

@@ -1,14 +1,12 @@
 //! What is worth a warning about the pieces of a plan, in their order.
 
-ghost use Rattle.std.specs.Prelude.{◌≡◌, ◌≤◌, ◌++◌, IfOk, None, OnOk, length, map, slice_index_or};
-ghost use Rattle.dsa_descriptor.specs.Descriptors.{fields};
+ghost use Rattle.std.specs.Prelude.{◌≡◌, ◌≤◌, ◌++◌, IfOk, None, OnOk, length, slice_index_or};
 ghost use Rattle.dsa_descriptor.specs.Pieces.{most_pieces};
 ghost use Rattle.dsa_plan.specs.Plan.{piece_count};
-ghost use Rattle.dsa_resume.specs.Shared.{IsSpare};
 ghost use Rattle.dsa_warnings.specs.Warnings.{AreWarnings, goes_on, last_barrier, shared_concern, warnings_at, warnings_from, with_piece};
 
+use crate::concerned::Concerned;
 use crate::concerns::{Concern, check_concern, overlap_concern};
-use dsa_descriptor::Descriptor;
 use dsa_plan::Plan;
 use dsa_resume::last_shared;
 use dsa_settings::epoch_numbers;
@@ -82,18 +80,21 @@ fn push_concern(
 }
 
 /// Adds all that is worth a warning about a piece.
-fn push_piece(
+fn push_piece<P: Concerned>(
     warnings: &mut Vec<Warning>,
     piece: usize,
     last: Option<u32>,
     is_before_barrier: bool,
     goes_on: bool,
-    d: &Descriptor,
+    subject: &P,
 ) -> Result<(), AllocError>
-    ensures { OnOk result (warnings.new.items ≡
-        warnings.old.items ++ warnings_at piece last is_before_barrier goes_on d.now) }
+    ensures { OnOk result (warnings.new.items ≡ warnings.old.items
+        ++ warnings_at piece last is_before_barrier goes_on (P.descriptor subject.now)) }
 {
     push_concern(warnings, piece, shared_concern(last))?;
+    let Some(d) = subject.descriptor() else {
+        return Ok(());
+    };
     push_concern(
         warnings,
         piece,
@@ -104,44 +105,42 @@ fn push_piece(
 
 /// What is worth a warning about pieces, by the last earlier piece with which each shares a record, the last barrier,
 /// and their epochs.
-fn all_warnings(
+fn all_warnings<P: Concerned>(
     alloc: Global,
-    pieces: &[Descriptor],
+    pieces: &[P],
     lasts: &[Option<u32>],
     barrier: usize,
     epochs: &[u32],
 ) -> Result<Vec<Warning>, AllocError>
     ensures { IfOk result (λ warnings. warnings.items ≡
-        warnings_from lasts.now barrier epochs.now 0 pieces.now) }
+        warnings_from P.descriptor lasts.now barrier epochs.now 0 pieces.now) }
 {
     let mut warnings = Vec::new(alloc);
-    for (piece, d) in pieces.iter().enumerate() {
+    for (piece, subject) in pieces.iter().enumerate() {
         let (last, goes) = (last_at(lasts, piece), goes_on(epochs, piece));
-        push_piece(&mut warnings, piece, last, piece < barrier, goes, d)?;
+        push_piece(&mut warnings, piece, last, piece < barrier, goes, subject)?;
     }
     Ok(warnings)
 }
 
 /// What is worth a warning about the pieces of a plan and their barriers, in the order of the pieces: that one writes
 /// into the completion record of another, that the result of a compare does not stop all that comes after it, and that
-/// a move's source and destination overlap. The spare byte is in no record.
+/// a move's source and destination overlap. About a checksum it is only the first.
 ///
 /// # Errors
 /// [`AllocError`] at the first allocation that fails.
-pub fn warnings_of(
+pub fn warnings_of<P: Concerned>(
     alloc: Global,
     plan: &Plan,
-    pieces: &[Descriptor],
+    pieces: &[P],
     barriers: &[bool],
-    spare: u64,
 ) -> Result<Vec<Warning>, AllocError>
     requires all { piece_count plan.now ≡ length pieces.now }
     requires few { length pieces.now ≤ most_pieces }
-    requires spare { IsSpare spare (map fields pieces.now) }
-    ensures { IfOk result
-        (λ warnings. AreWarnings pieces.now barriers.now plan.now warnings.items) }
+    ensures { IfOk result (λ warnings. AreWarnings P.writes P.descriptor
+        pieces.now barriers.now plan.now warnings.items) }
 {
-    let lasts = last_shared(alloc, pieces, spare)?;
+    let lasts = last_shared(alloc, pieces)?;
     let epochs = epoch_numbers(alloc, plan)?;
     all_warnings(alloc, pieces, &lasts, last_barrier(barriers), &epochs)
 }

@@ -1,41 +1,33 @@
-use Rattle.std.proofs.Common.{◌≡◌, ℕ, ◌*◌, List, length, map, sym, ◌∙◌, subst, arith}
+use Rattle.std.proofs.Common.{◌≡◌, ◌*◌, length, ◌∙◌, arith}
 use Rattle.std.proofs.lemmas.Grind.{common_steps}
-use Rattle.dsa_descriptor.specs.declared.descriptor.Descriptor.{Descriptor}
-use Rattle.dsa_descriptor.specs.Descriptors.{fields}
+use Rattle.dsa_ranges.specs.Pieces.{writes_of}
 use Rattle.dsa_resume.specs.Ended.{ends_of}
-use Rattle.dsa_resume.specs.Shared.{IsFirstShared, IsSpare, NoneShare}
+use Rattle.dsa_resume.specs.Shared.{IsFirstShared, NoneShare}
 use Rattle.dsa_resume.proofs.Found.{length-ends}
 use Rattle.dsa_resume.proofs.Resumed.{again_if_left, answer_idle, answer_left, answer_records, answer_shared}
-use Rattle.dsa_resume.proofs.Sharing.{staging_is_spare}
 use Rattle.dsa_resume.proofs.resuming.resume_pieces.Goals as goal
 
 pub returns-then-records-len-clause-answer : goal.returns-then-records-len-clause-answer
 returns-then-records-len-clause-answer c = answer_records _ _ (grind (arith, common_steps, c.if-records-len.true, c.len.ensures))
 
-pub first_shared-requires-clause-spare : goal.first_shared-requires-clause-spare
-first_shared-requires-clause-spare c =
-    let spare : IsSpare c.args.settings.now.staging (map fields c.args.pieces.now.descriptors.items) = staging_is_spare c.args.settings.now (map fields c.args.pieces.now.descriptors.items) c.requires in
-    subst (λ (ds : List Descriptor). IsSpare c.staging.result (map fields ds)) (sym c.deref.ensures.value)
-    (subst (λ (at : ℕ). IsSpare at (map fields c.args.pieces.now.descriptors.items)) (sym c.staging.ensures.value) spare)
-
 pub returns-in-Ok-Some-clause-answer : goal.returns-in-Ok-Some-clause-answer
 returns-in-Ok-Some-clause-answer c =
     let first = rw c.in-Ok-Some.field-0-is at c.in-Ok-Some.ensures in
-    let shared : IsFirstShared (map fields c.args.pieces.now.descriptors.items) c.in-Ok-Some.i c.in-Ok-Some.j = rw c.deref.ensures.value at first in
+    let shared : IsFirstShared writes_of c.args.pieces.now.descriptors.items c.in-Ok-Some.i c.in-Ok-Some.j = rw c.deref.ensures.value at first in
     answer_shared _ _ c.in-Ok-Some.i c.in-Ok-Some.j (grind (arith, common_steps, c.if-records-len.false, c.len.ensures)) shared
 
 pub returns-in-Some-clause-answer : goal.returns-in-Some-clause-answer
 returns-in-Some-clause-answer c =
     let count : length c.args.records.now ≡ 32 * length c.args.pieces.now.descriptors.items = grind (arith, common_steps, c.if-records-len.false, c.len.ensures) in
     let first = rw c.in-Ok-None.field-0-is at c.in-Ok-None.ensures in
-    let none : NoneShare (map fields c.args.pieces.now.descriptors.items) = rw c.deref.ensures.value at first in
+    let none : NoneShare writes_of c.args.pieces.now.descriptors.items = rw c.deref.ensures.value at first in
     answer_idle _ _ (record { count = count; own = none }) c.as_chunks.result.0.now c.as_chunks.ensures.front c.in-Some.i c.in-Some.ensures
 
 pub returns-clause-answer : goal.returns-clause-answer
 returns-clause-answer c =
     let count : length c.args.records.now ≡ 32 * length c.args.pieces.now.descriptors.items = grind (arith, common_steps, c.if-records-len.false, c.len.ensures) in
     let first = rw c.in-Ok-None.field-0-is at c.in-Ok-None.ensures in
-    let none : NoneShare (map fields c.args.pieces.now.descriptors.items) = rw c.deref.ensures.value at first in
+    let none : NoneShare writes_of c.args.pieces.now.descriptors.items = rw c.deref.ensures.value at first in
     answer_left _ _ (record { count = count; own = none }) c.as_chunks.result.0.now c.as_chunks.ensures.front c.in_default.ensures c.left_over.result c.left_over.ensures
 
 pub returns-clause-again : goal.returns-clause-again

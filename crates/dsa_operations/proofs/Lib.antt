@@ -6,10 +6,10 @@ pub mod Same
 pub mod Answered
 pub mod Written
 pub mod Apart
-pub mod Windows
-pub mod Conflicting
 pub mod Listed
 pub mod First
 pub mod Submitted
 pub mod Ready
 pub mod AnyLists
+pub mod Addressable
+pub mod SubmittedAlike

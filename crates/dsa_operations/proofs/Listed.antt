@@ -5,12 +5,11 @@ use Rattle.std.proofs.lemmas.Option.{same_Some, slice_get-map}
 use Rattle.dsa_descriptor.specs.declared.descriptor.Descriptor.{Descriptor}
 use Rattle.dsa_descriptor.specs.Descriptors.{fields}
 use Rattle.dsa_descriptor.specs.Fields.{Fields}
-use Rattle.dsa_ranges.specs.Ranges.{ConflictAt, Conflicts}
+use Rattle.dsa_ranges.specs.Ranges.{ConflictAt, Conflicts, SpansConflict}
 use Rattle.dsa_operations.specs.declared.operation.Operation.{Operation}
 use Rattle.dsa_operations.specs.declared.operation.Operation.TheVariants as operation
 use Rattle.dsa_operations.specs.Laws.{DescriptorsConflictAlike}
-use Rattle.dsa_operations.specs.Operations.{OperationConflictAt}
-use Rattle.dsa_operations.proofs.Conflicting.{OperationsConflict}
+use Rattle.dsa_operations.specs.Operations.{OperationConflictAt, reads_of, writes_of}
 
 -- what is at a place of a list that is made of another
 made_of : {A B : Type 0} (f : A → B) (xs : List A) (k : ℕ) (y : B) → slice_get (map f xs) k ≡ Some y → (x : A) × (slice_get xs k ≡ Some x) × (f x ≡ y)
@@ -20,6 +19,10 @@ made_of f (x ∷ xs) (suc k) y e = made_of f xs k y e
 
 made_there : {A B : Type 0} (f : A → B) (xs : List A) (k : ℕ) (x : A) → slice_get xs k ≡ Some x → slice_get (map f xs) k ≡ Some (f x)
 made_there f xs k x e = slice_get-map f xs k ∙ ap (option_map f) e
+
+-- two operations conflict
+abbrev OperationsConflict : Operation → Operation → Type 0
+OperationsConflict o p = SpansConflict (reads_of o) (writes_of o) (reads_of p) (writes_of p)
 
 module _ (ds : List Descriptor) (i j : ℕ) where
   of_descriptors : ConflictAt (map fields ds) i j → OperationConflictAt (map operation.Descriptor ds) i j

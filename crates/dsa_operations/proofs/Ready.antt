@@ -1,12 +1,12 @@
 -- Lists of operations that are ready to be submitted; planning them answers what checking accepts.
-use Rattle.std.proofs.Common.{◌≡◌, ◌⊎◌, inl, inr, ℕ, ◌<◌, ◌≤◌, Bool, List, length, get_or, Result, Ok, Err, sym, ap, subst, ◌∙◌}
-use Rattle.std.specs.Prelude.{IfOk}
+use Rattle.std.proofs.Common.{◌≡◌, ◌⊎◌, inl, inr, ℕ, Bool, List, length, map, get_or, Result, Ok, Err, sym, ap, subst, ◌∙◌}
+use Rattle.std.specs.Prelude.{IfOk, option_map}
 use Rattle.std.specs.List.{flat_map}
-use Rattle.std.proofs.lemmas.Bool.{cases_lt}
-use Rattle.std.proofs.lemmas.Option.{slice_get-get_or}
+use Rattle.std.proofs.lemmas.Option.{slice_get-get_or, slice_get-map}
 use Rattle.dsa_descriptor.specs.declared.fault.ListFault.{ListFault}
+use Rattle.dsa_descriptor.specs.declared.fault.ListFault.TheVariants.{Memory as ListMemory}
 use Rattle.dsa_descriptor.specs.Fences.{barriers_of, unfenced_list}
-use Rattle.dsa_descriptor.specs.Lists.{AreOfOneOwner}
+use Rattle.dsa_descriptor.specs.Lists.{AreOfOneOwner, IsFirstFaultBy}
 use Rattle.dsa_descriptor.proofs.Entries.{first_by_is_one, one_entries_spelling, sound_by, sound_or_fault_by}
 use Rattle.dsa_plan.specs.Barriers.{WithBarriers}
 use Rattle.dsa_plan.specs.Certificate.{Contents}
@@ -23,7 +23,11 @@ use Rattle.dsa_operations.specs.declared.operation.Operation.{Operation}
 use Rattle.dsa_operations.specs.Checking.{ChecksOperationList, IsLeastOperationEmission}
 use Rattle.dsa_operations.specs.Faults.{OperationKeeps}
 use Rattle.dsa_operations.specs.Operations.{OperationConflictAt, operation_kind, size_of, spelling_of}
-use Rattle.dsa_operations.specs.Submissions.{AreReady, CanBeSubmitted, IsLeastOfOperations, IsOperationSubmission, OperationSubmission, PlansEntries, PlansOperationList}
+use Rattle.dsa_operations.specs.Submissions.{AreReady, CanBeSubmitted, IsLeastOfOperations, IsOperationSubmission, JudgesOperationList, OperationSubmission, OverOperations, PlansEntries, PlansOperationList}
+use Rattle.dsa_calls.specs.Judge.{JudgesPiecesBy}
+use Rattle.dsa_calls.specs.Lists.{IsOrMemory, OrMemory}
+use Rattle.dsa_calls.proofs.Over.{only_outcome}
+use Rattle.dsa_calls.proofs.JudgedOnce.{one_judged_by}
 use Rattle.dsa_calls.proofs.PiecesChecked.{chosen_checks, least_checked, one_pieces, refused_call, shown_by}
 use Rattle.dsa_calls.proofs.Submissions.{legal_shapes}
 use Rattle.dsa_operations.proofs.Answered.{are_operations}
@@ -35,17 +39,47 @@ use Rattle.dsa_operations.proofs.Submitted.{is_good, is_least, not_refused, one_
 pub one_operations : (bytes : List ℕ) (es fs : List Operation) → unfenced_list bytes ≡ flat_map spelling_of es → unfenced_list bytes ≡ flat_map spelling_of fs → fs ≡ es
 one_operations bytes es fs e f = one_entries_spelling Operation spelling_of OperationKeeps are_operations fs es (sym f ∙ e)
 
+-- bytes that spell operations of one owner have no fault
+pub no_operations_fault : (bytes : List ℕ) (es : List Operation) (fault : ListFault) → unfenced_list bytes ≡ flat_map spelling_of es → AreOfOneOwner spelling_of es → (fault ≡ ListMemory → ⊥)
+    → IsFirstFaultBy OperationKeeps (unfenced_list bytes) fault → ⊥
+no_operations_fault bytes es fault spelt owner other first =
+    sound_or_fault_by OperationKeeps (unfenced_list bytes) fault (sound_by Operation spelling_of OperationKeeps are_operations (unfenced_list bytes) es spelt owner) other first
+
+-- a call over bytes has one outcome, where it has one over operations
+pub one_over_operations : {X : Type 0} (Says : List Operation → Result X PlanFault → Type 0) → ((es : List Operation) (o p : Result X PlanFault) → Says es o → Says es p → o ≡ p)
+    → (bytes : List ℕ) (o p : Result X PlanFault) → OverOperations Says bytes o → OverOperations Says bytes p → o ≡ p
+one_over_operations Says one bytes o p (inl (f, nf, first, is)) (inl (g, ng, first', is')) =
+    is ∙ ap (λ (x : ListFault). Err (InList x)) (first_by_is_one OperationKeeps (unfenced_list bytes) f g nf ng first first') ∙ sym is'
+one_over_operations Says one bytes o p (inl (f, nf, first, is)) (inr (es, spelt, owner, says)) = absurd (no_operations_fault bytes es f spelt owner nf first)
+one_over_operations Says one bytes o p (inr (es, spelt, owner, says)) (inl (g, ng, first, is)) = absurd (no_operations_fault bytes es g spelt owner ng first)
+one_over_operations Says one bytes o p (inr (es, spelt, owner, says)) (inr (fs, spelt', owner', says')) =
+    let same : fs ≡ es = one_operations bytes es fs spelt spelt' in
+    one es o p says (subst (λ (xs : List Operation). Says xs p) same says')
+
 -- planning a list of operations has one outcome
 pub one_operation_plan : (bytes : List ℕ) (s : Limits) (o p : Result OperationSubmission PlanFault) → PlansOperationList bytes s o → PlansOperationList bytes s p → o ≡ p
-one_operation_plan bytes s o p (inl (f, nf, first, is)) (inl (g, ng, first', is')) =
-    is ∙ ap (λ (x : ListFault). Err (InList x)) (first_by_is_one OperationKeeps (unfenced_list bytes) f g nf ng first first') ∙ sym is'
-one_operation_plan bytes s o p (inl (f, nf, first, is)) (inr (es, spelt, owner, plans)) =
-    absurd (sound_or_fault_by OperationKeeps (unfenced_list bytes) f (sound_by Operation spelling_of OperationKeeps are_operations (unfenced_list bytes) es spelt owner) nf first)
-one_operation_plan bytes s o p (inr (es, spelt, owner, plans)) (inl (g, ng, first, is)) =
-    absurd (sound_or_fault_by OperationKeeps (unfenced_list bytes) g (sound_by Operation spelling_of OperationKeeps are_operations (unfenced_list bytes) es spelt owner) ng first)
-one_operation_plan bytes s o p (inr (es, spelt, owner, plans)) (inr (fs, spelt', owner', plans')) =
-    let same : fs ≡ es = one_operations bytes es fs spelt spelt' in
-    one_plan s es (barriers_of bytes) o p plans (subst (λ (xs : List Operation). PlansEntries s xs (barriers_of bytes) p) same plans')
+one_operation_plan bytes s o p =
+    one_over_operations (λ es r. PlansEntries s es (barriers_of bytes) r) (λ es r q h k. one_plan s es (barriers_of bytes) r q h k) bytes o p
+
+-- and so has judging a plan for one
+pub one_operation_judge : (bytes : List ℕ) (plan : Plan) (s : Limits) (o p : Result ℕ PlanFault) → JudgesOperationList bytes plan s o → JudgesOperationList bytes plan s p → o ≡ p
+one_operation_judge bytes plan s o p =
+    one_over_operations (λ es r. JudgesPiecesBy (WithBarriers (OperationConflictAt es) (barriers_of bytes)) (map size_of es) plan s r)
+    (λ es r q h k. one_judged_by (WithBarriers (OperationConflictAt es) (barriers_of bytes)) (map size_of es) plan s r q h k) bytes o p
+
+pub operations_judged : (bytes : List ℕ) (plan : Plan) (s : Limits) (es : List Operation) (barriers : List Bool) (r : Result ℕ PlanFault) → unfenced_list bytes ≡ flat_map spelling_of es
+    → AreOfOneOwner spelling_of es → barriers ≡ barriers_of bytes → JudgesPiecesBy (WithBarriers (OperationConflictAt es) barriers) (map size_of es) plan s r
+    → OrMemory (λ cost. cost) (JudgesOperationList bytes plan s) r
+operations_judged bytes plan s es barriers r spelt owner is judges =
+    go r (inr (es, spelt, owner, subst (λ (marks : List Bool). JudgesPiecesBy (WithBarriers (OperationConflictAt es) marks) (map size_of es) plan s r) is judges))
+  where
+    go : (o : Result ℕ PlanFault) → JudgesOperationList bytes plan s o → OrMemory (λ cost. cost) (JudgesOperationList bytes plan s) o
+    go (Ok cost) h = h
+    go (Err fault) h = inr h
+
+pub only_operation_judge : (bytes : List ℕ) (plan : Plan) (s : Limits) (r : Result ℕ PlanFault) → OrMemory (λ cost. cost) (JudgesOperationList bytes plan s) r
+    → (o : Result ℕ PlanFault) → JudgesOperationList bytes plan s o → IsOrMemory (λ cost. cost) o r
+only_operation_judge bytes plan s r told = only_outcome (λ cost. cost) (JudgesOperationList bytes plan s) (one_operation_judge bytes plan s) r told
 
 -- what is ready is not refused
 pub ready_not_refused : (bytes : List ℕ) (s : Limits) (operations : List Operation) (fault : PlanFault) → AreReady bytes s operations → PlansOperationList bytes s (Err fault) → ⊥
@@ -74,9 +108,6 @@ one_operation_check bytes portal staging s c o p (inr (es, ready, checks)) (inr 
 
 -- ---- what planning answers
 
-not_more : (n m : ℕ) → ¬ (n < m) → m ≤ n
-not_more n m less = elim (cases_lt n m) [ inl more ↦ absurd (less more) | inr few ↦ few ]
-
 can_be_emitted : (s : Limits) (operations : List Operation) (C : ℕ → ℕ → Type 0) (plan : Plan) → CanBeSubmitted s operations → AreOfOneOwner spelling_of operations
     → IsLegal C s.greatest_batch (length operations) plan → CanBeEmittedAs operation_kind s plan operations
 can_be_emitted s operations C plan can owner legal = record {
@@ -84,7 +115,7 @@ can_be_emitted s operations C plan can owner legal = record {
   few = can.few;
   shapes = legal_shapes C s (length operations) plan legal;
   one_owner = owner;
-  short = λ k o lt. not_more s.greatest_transfer (size_of (get_or operations k o)) (can.short k (get_or operations k o) (slice_get-get_or operations k o lt));
+  short = λ k o lt. can.short k (size_of (get_or operations k o)) (slice_get-map size_of operations k ∙ ap (option_map size_of) (slice_get-get_or operations k o lt));
   clear = λ k o lt address inside touched. can.clear k (get_or operations k o) (slice_get-get_or operations k o lt) (address, inside, touched);
 }
 

@@ -1,5 +1,5 @@
 -- Planning operations has one outcome, whose plan is least.
-use Rattle.std.proofs.Common.{◌≡◌, inl, inr, ℕ, Bool, List, length, Result, Ok, Err, sym, ap, subst, ◌∙◌, arith}
+use Rattle.std.proofs.Common.{◌≡◌, inl, inr, ℕ, Bool, List, length, map, Result, Ok, Err, sym, ap, subst, ◌∙◌, arith}
 use Rattle.std.specs.Prelude.{slice_index}
 use Rattle.dsa_plan.specs.Settings.{Limits, tariff_of}
 use Rattle.dsa_plan.specs.Plan.{Plan, plan_cost}
@@ -13,11 +13,12 @@ use Rattle.dsa_search.proofs.Unique.{one_chosen}
 use Rattle.dsa_calls.specs.declared.fault.PlanFault.{PlanFault}
 use Rattle.dsa_calls.specs.declared.fault.PlanFault.TheVariants.{OverTransfer, Split}
 use Rattle.dsa_calls.specs.Lists.{IsOrMemory, OrMemory}
+use Rattle.dsa_calls.proofs.JudgedOnce.{none_over, one_over}
 use Rattle.dsa_calls.proofs.Over.{only_outcome}
 use Rattle.dsa_operations.specs.declared.operation.Operation.{Operation}
 use Rattle.dsa_operations.specs.declared.submitting.PlannedOperations.{PlannedOperations}
-use Rattle.dsa_operations.specs.Operations.{OperationConflictAt, spelling_of}
-use Rattle.dsa_operations.specs.Submissions.{area_of, operation_submission_of, CanBeSubmitted, IsOperationSubmission, IsOver, TouchesArea, OperationSubmission, PlansEntries}
+use Rattle.dsa_operations.specs.Operations.{OperationConflictAt, size_of, spelling_of}
+use Rattle.dsa_operations.specs.Submissions.{area_of, operation_submission_of, CanBeSubmitted, IsOperationSubmission, TouchesArea, OperationSubmission, PlansEntries}
 use Rattle.dsa_operations.proofs.First.{none_first, one_first}
 
 -- ---- one outcome
@@ -42,7 +43,7 @@ module _ (s : Limits) (operations : List Operation) (barriers : List Bool) where
   -- what can be submitted is not refused
   pub not_refused : (cause : PlanFault) → CanBeSubmitted s operations → PlansEntries s operations barriers (Err cause) → ⊥
   not_refused cause can (inl (is, many)) = omega (arith, can.few, many)
-  not_refused cause can (inr (inl (i, is, few, first))) = none_first (IsOver s.greatest_transfer) operations i can.short first
+  not_refused cause can (inr (inl (i, is, few, first))) = none_over s.greatest_transfer (map size_of operations) i can.short first
   not_refused cause can (inr (inr (i, is, few, short, first))) = none_first (TouchesArea (area_of s operations)) operations i can.clear first
 
   -- what is refused is refused for one cause
@@ -52,12 +53,12 @@ module _ (s : Limits) (operations : List Operation) (barriers : List Bool) where
   one_refusal f g (inl (is, many)) (inr (inr (j, is', few', short', first'))) = absurd (omega (arith, many, few'))
   one_refusal f g (inr (inl (i, is, few, first))) (inl (is', many')) = absurd (omega (arith, many', few))
   one_refusal f g (inr (inl (i, is, few, first))) (inr (inl (j, is', few', first'))) =
-      is ∙ ap OverTransfer (one_first (IsOver s.greatest_transfer) operations i j first first') ∙ sym is'
+      is ∙ ap OverTransfer (one_over s.greatest_transfer (map size_of operations) i j first first') ∙ sym is'
   one_refusal f g (inr (inl (i, is, few, first))) (inr (inr (j, is', few', short', first'))) =
-      absurd (none_first (IsOver s.greatest_transfer) operations i short' first)
+      absurd (none_over s.greatest_transfer (map size_of operations) i short' first)
   one_refusal f g (inr (inr (i, is, few, short, first))) (inl (is', many')) = absurd (omega (arith, many', few))
   one_refusal f g (inr (inr (i, is, few, short, first))) (inr (inl (j, is', few', first'))) =
-      absurd (none_first (IsOver s.greatest_transfer) operations j short first')
+      absurd (none_over s.greatest_transfer (map size_of operations) j short first')
   one_refusal f g (inr (inr (i, is, few, short, first))) (inr (inr (j, is', few', short', first'))) =
       is ∙ ap (λ (k : ℕ). Split (StagingMeets k)) (one_first (TouchesArea (area_of s operations)) operations i j first first') ∙ sym is'
 

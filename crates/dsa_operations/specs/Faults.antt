@@ -4,7 +4,7 @@ use Rattle.std.specs.List.{AllByRecursion}
 use Rattle.dsa_descriptor.specs.declared.fault.FieldFault.{FieldFault}
 use Rattle.dsa_descriptor.specs.declared.fault.FieldFault.TheVariants.{Opcode, FlagBits, Reserved, SizeZero, Wrap, RecordAlign, DualcastBits, Overlap, Delta, Expected, RecordMeetsData}
 use Rattle.dsa_descriptor.specs.Data.{record_span}
-use Rattle.dsa_descriptor.specs.Faults.{number, IsFirstBreach, Keeps}
+use Rattle.dsa_descriptor.specs.Faults.{IsFirstBreach, Keeps}
 use Rattle.dsa_descriptor.specs.Places.{u16_at, u32_at, u64_at, reserved_bits_at, flags_at}
 use Rattle.dsa_descriptor.specs.Spans.{ApartFrom, IsAddressable}
 use Rattle.dsa_operations.specs.declared.checksum_op.ChecksumOp.{ChecksumOp}

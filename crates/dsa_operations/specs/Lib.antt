@@ -10,7 +10,6 @@ pub mod Faults
 pub mod Operations
 pub mod Laws
 pub mod Samples
-pub mod Members
 pub mod Submissions
 pub mod Checking
 pub mod AnyLists

@@ -1,5 +1,5 @@
--- What planning says of a list of operations and the settings.
-use Rattle.std.specs.Prelude.{◌≡◌, ◌≢◌, ◌⊎◌, ℕ, ◌<◌, ◌≤◌, Bool, List, length, slice_get, Some, Result, Ok, Err}
+-- What planning and judging say of a list of operations and the settings.
+use Rattle.std.specs.Prelude.{◌≡◌, ◌≢◌, ◌⊎◌, ℕ, ◌<◌, ◌≤◌, Bool, List, length, map, slice_get, Some, Result, Ok, Err}
 use Rattle.std.specs.List.{flat_map}
 use Rattle.dsa_descriptor.specs.declared.fault.ListFault.{ListFault}
 use Rattle.dsa_descriptor.specs.declared.fault.ListFault.TheVariants.{Memory as ListMemory}
@@ -20,14 +20,11 @@ use Rattle.dsa_splitter.specs.declared.fault.SplitFault.TheVariants.{TooManyPiec
 use Rattle.dsa_search.specs.Chosen.{IsChosen}
 use Rattle.dsa_calls.specs.declared.fault.PlanFault.{PlanFault}
 use Rattle.dsa_calls.specs.declared.fault.PlanFault.TheVariants.{List as InList, Split, OverTransfer}
+use Rattle.dsa_calls.specs.Judge.{FitTransfer, IsFirstOver, JudgesPiecesBy}
 use Rattle.dsa_operations.specs.declared.operation.Operation.{Operation}
 use Rattle.dsa_operations.specs.declared.submitting.PlannedOperations.{PlannedOperations}
 use Rattle.dsa_operations.specs.Faults.{OperationKeeps}
 use Rattle.dsa_operations.specs.Operations.{OperationConflictAt, operation_kind, size_of, spelling_of}
-
--- an operation is longer than the greatest transfer
-abbrev pub IsOver : ℕ → Operation → Type 0
-IsOver greatest o = greatest < size_of o
 
 -- an operation reads or writes an address of the area
 abbrev pub TouchesArea : Span → Operation → Type 0
@@ -52,7 +49,7 @@ area_of s operations = staging_area s.staging (length operations)
 -- writes where batches are put (this project's choice, as for the pieces of a list of descriptors; none is split)
 pub record CanBeSubmitted (s : Limits) (operations : List Operation) : Type 0 where
   pub few : length operations ≤ most_pieces
-  pub short : NoneHas (IsOver s.greatest_transfer) operations
+  pub short : FitTransfer s.greatest_transfer (map size_of operations)
   pub clear : NoneHas (TouchesArea (area_of s operations)) operations
 
 -- the operations that the bytes without their fences spell, of one owner, and they can be submitted as they are
@@ -89,17 +86,27 @@ abbrev pub PlansEntries : Limits → List Operation → List Bool → Result Ope
 PlansEntries s operations barriers (Ok p) = IsOperationSubmission s operations barriers p
 PlansEntries s operations barriers (Err cause) =
     ((cause ≡ Split TooManyPieces) × (most_pieces < length operations))
-    ⊎ ((i : ℕ) × (cause ≡ OverTransfer i) × (length operations ≤ most_pieces) × IsFirst (IsOver s.greatest_transfer) operations i)
+    ⊎ ((i : ℕ) × (cause ≡ OverTransfer i) × (length operations ≤ most_pieces) × IsFirstOver s.greatest_transfer (map size_of operations) i)
     ⊎ ((i : ℕ) × (cause ≡ Split (StagingMeets i)) × (length operations ≤ most_pieces)
-    × NoneHas (IsOver s.greatest_transfer) operations × IsFirst (TouchesArea (area_of s operations)) operations i)
+    × FitTransfer s.greatest_transfer (map size_of operations) × IsFirst (TouchesArea (area_of s operations)) operations i)
 
--- the outcome of planning these bytes: the first fault of the bytes without their fences as a list of operations, or the
--- outcome of planning the operations that they spell, with the barriers that their fences are
-abbrev pub PlansOperationList : List ℕ → Limits → Result OperationSubmission PlanFault → Type 0
-PlansOperationList bytes s outcome =
+-- the outcome of a call over the bytes of a list of operations: the first fault of the bytes without their fences as such, or
+-- what the call says of the operations that they spell
+abbrev pub OverOperations : {X : Type 0} → (List Operation → Result X PlanFault → Type 0) → List ℕ → Result X PlanFault → Type 0
+OverOperations Says bytes outcome =
     ((fault : ListFault) × (fault ≢ ListMemory) × IsFirstFaultBy OperationKeeps (unfenced_list bytes) fault × (outcome ≡ Err (InList fault)))
     ⊎ ((operations : List Operation) × (unfenced_list bytes ≡ flat_map spelling_of operations) × AreOfOneOwner spelling_of operations
-    × PlansEntries s operations (barriers_of bytes) outcome)
+    × Says operations outcome)
+
+-- the outcome of planning these bytes, with the barriers that their fences are
+abbrev pub PlansOperationList : List ℕ → Limits → Result OperationSubmission PlanFault → Type 0
+PlansOperationList bytes s outcome = OverOperations (λ operations o. PlansEntries s operations (barriers_of bytes) o) bytes outcome
+
+-- the outcome of judging a plan for these bytes, with the barriers that their fences are
+abbrev pub JudgesOperationList : List ℕ → Plan → Limits → Result ℕ PlanFault → Type 0
+JudgesOperationList bytes plan s outcome =
+    OverOperations (λ operations o. JudgesPiecesBy (WithBarriers (OperationConflictAt operations) (barriers_of bytes)) (map size_of operations) plan s o)
+    bytes outcome
 
 -- the plan is legal for the operations of the list and keeps their barriers, no such plan costs less, and the certificate is
 -- good for its cost

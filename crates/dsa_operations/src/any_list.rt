@@ -9,13 +9,16 @@ ghost use Rattle.dsa_calls.specs.declared.fault.PlanFault.{PlanFault};
 ghost use Rattle.dsa_calls.specs.declared.fault.PlanFault.TheVariants.{List as InList, Memory};
 ghost use Rattle.dsa_calls.specs.Lists.{IsOrMemory, OrMemory};
 ghost use Rattle.dsa_calls.specs.Planned.{submission_of};
-ghost use Rattle.dsa_operations.specs.AnyLists.{ChecksAnyList, IsLeastEmissionOfAnyList, IsLeastOfAnyList, PlansAnyList, counted};
+ghost use Rattle.dsa_operations.specs.AnyLists.{ChecksAnyList, IsLeastEmissionOfAnyList, IsLeastOfAnyList, JudgesAnyList, PlansAnyList, counted};
 ghost use Rattle.dsa_operations.specs.Submissions.{OperationSubmission, operation_submission_of};
 
 use crate::checking::check_operation_list;
+use crate::judging::judge_operation_list;
 use crate::submitting::{PlannedOperations, plan_operation_list};
-use dsa_calls::{FencedFault, PlanFault, Planned, check_fenced_list, plan_fenced_list};
-use dsa_plan::{Certificate, Settings};
+use dsa_calls::{
+    FencedFault, PlanFault, Planned, check_fenced_list, judge_fenced_list, plan_fenced_list,
+};
+use dsa_plan::{Certificate, Plan, Settings};
 use std::alloc::Global;
 
 /// What was planned of a list of descriptors, with the number of its pieces in place of these.
@@ -33,7 +36,7 @@ fn counted(planned: Planned) -> PlannedOperations
 }
 
 /// Whether the fault says that bytes are no list of descriptors.
-fn is_of_bytes(fault: PlanFault) -> bool
+pub(crate) fn is_of_bytes(fault: PlanFault) -> bool
     ensures { IsTrue result ↔ ((cause : ListFault) × (fault ≡ InList cause)) }
 {
     matches!(fault, PlanFault::List(_))
@@ -107,6 +110,35 @@ pub fn check_any_list(
                 return check_operation_list(alloc, list, portal, staging, settings, certificate);
             }
             Err(FencedFault::Call(fault))
+        }
+    }
+}
+
+/// The cost of the plan for a list that may have checksums, none of whose operations is split, as [`judge_fenced_list`]
+/// judges it if the list is one of descriptors, and else as [`judge_operation_list`] does.
+///
+/// # Errors
+/// As the one of the two reports it.
+pub fn judge_any_list(
+    alloc: Global,
+    list: &[u8],
+    plan: &Plan,
+    settings: &Settings,
+) -> Result<u64, PlanFault>
+    ensures answer { OrMemory (λ cost. cost)
+        (JudgesAnyList list.now plan.now settings.now) result }
+    // What it answers is the one outcome, but for an allocation failure.
+    ensures only { (outcome : Result ℕ PlanFault) →
+        JudgesAnyList list.now plan.now settings.now outcome →
+        IsOrMemory (λ cost. cost) outcome result }
+{
+    match judge_fenced_list(alloc, list, plan, settings) {
+        Ok(cost) => Ok(cost),
+        Err(fault) => {
+            if is_of_bytes(fault) {
+                return judge_operation_list(alloc, list, plan, settings);
+            }
+            Err(fault)
         }
     }
 }

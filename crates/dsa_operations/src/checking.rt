@@ -17,7 +17,7 @@ use dsa_plan::{Certificate, Settings};
 use std::alloc::Global;
 
 /// The operations that the bytes spell, fenced or not, and their barriers, if they can be submitted as they are.
-fn ready_operations(
+pub(crate) fn ready_operations(
     alloc: Global,
     list: &[u8],
     settings: &Settings,

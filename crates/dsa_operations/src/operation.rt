@@ -6,7 +6,7 @@ ghost use Rattle.dsa_descriptor.specs.declared.fault.FieldFault.{FieldFault};
 use crate::checksum::Checksum;
 use crate::reading::{checksum_at, first_fault};
 use dsa_descriptor::{Descriptor, Entry, EntryList, FieldFault};
-use dsa_ranges::{Piece, Touched, touched};
+use dsa_ranges::{Piece, Touched, Touching, touched};
 
 /// An operation that a list may have, with its completion record and its owner.
 #[derive(Clone, Copy)]
@@ -87,10 +87,8 @@ impl Entry for Operation {
     }
 }
 
-impl Piece for Operation {
-    ghost use Rattle.dsa_operations.specs.Operations.{OperationConflictAt, reads_of, size_of, writes_of};
-
-    ghost size = { size_of };
+impl Touching for Operation {
+    ghost use Rattle.dsa_operations.specs.Operations.{OperationConflictAt, reads_of, writes_of};
 
     ghost reads = { reads_of };
 
@@ -98,19 +96,27 @@ impl Piece for Operation {
 
     ghost conflict = { OperationConflictAt };
 
-    fn are_pieces() {}
+    fn conflict_as_touched() {}
 
-    fn transfer_size(&self) -> u32 {
-        match self {
-            Operation::Descriptor(descriptor) => descriptor.size,
-            Operation::Checksum(checksum) => checksum.size,
-        }
-    }
-
+    #[inline(always)]
     fn touched_spans(&self) -> Touched {
         match self {
             Operation::Descriptor(descriptor) => touched(descriptor),
             Operation::Checksum(checksum) => checksum.touched(),
+        }
+    }
+}
+
+impl Piece for Operation {
+    ghost use Rattle.dsa_operations.specs.Operations.{size_of};
+
+    ghost size = { size_of };
+
+    #[inline(always)]
+    fn transfer_size(&self) -> u32 {
+        match self {
+            Operation::Descriptor(descriptor) => descriptor.size,
+            Operation::Checksum(checksum) => checksum.size,
         }
     }
 }

@@ -9,15 +9,15 @@ ghost use Rattle.dsa_plan.specs.Settings.{tariff_of};
 ghost use Rattle.dsa_calls.specs.declared.fault.PlanFault.{PlanFault};
 ghost use Rattle.dsa_calls.specs.Lists.{IsOrMemory, OrMemory};
 ghost use Rattle.dsa_operations.specs.Operations.{OperationConflictAt, spelling_of};
-ghost use Rattle.dsa_operations.specs.Submissions.{CanBeSubmitted, IsFirst, IsOperationSubmission, IsOver, TouchesArea, NoneHas, OperationSubmission, PlansOperationList, PlansEntries, operation_submission_of};
+ghost use Rattle.dsa_operations.specs.Submissions.{CanBeSubmitted, IsFirst, IsOperationSubmission, TouchesArea, NoneHas, OperationSubmission, PlansOperationList, PlansEntries, operation_submission_of};
 
 use crate::operation::{Operation, OperationList};
 use crate::planning::search_operations;
-use dsa_calls::PlanFault;
+use dsa_calls::{PlanFault, first_over};
 use dsa_descriptor::{MOST_PIECES, Span, read_entries};
 use dsa_emission::{Emission, emit_entries};
 use dsa_plan::Certificate;
-use dsa_ranges::{Piece, meets_some};
+use dsa_ranges::{Touching, meets_some};
 use dsa_search::Found;
 use dsa_settings::{Plan, STAGED_LEN, Settings};
 use dsa_splitter::SplitFault;
@@ -36,19 +36,6 @@ pub struct PlannedOperations {
     pub cost: u64,
     /// The bytes to submit.
     pub emission: Emission,
-}
-
-/// The index of the first operation longer than the greatest transfer.
-fn first_over(operations: &[Operation], greatest: u64) -> Option<usize>
-    ensures { MatchOption result (NoneHas (IsOver greatest) operations.now)
-        (λ i. IsFirst (IsOver greatest) operations.now i) }
-{
-    for (index, operation) in operations.iter().enumerate() {
-        if u64::from(operation.transfer_size()) > greatest {
-            return Some(index);
-        }
-    }
-    None
 }
 
 /// Whether the operation reads or writes an address of the area.
@@ -98,7 +85,7 @@ pub(crate) fn refusal(operations: &[Operation], settings: &Settings) -> Option<P
 }
 
 /// The plan of least cost for the operations and their barriers, with its certificate, its cost and its emission.
-fn plan_as_they_are(
+pub(crate) fn plan_as_they_are(
     alloc: Global,
     operations: &[Operation],
     barriers: &[bool],

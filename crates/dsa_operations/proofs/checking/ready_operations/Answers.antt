@@ -1,4 +1,4 @@
-use Rattle.std.proofs.Common.{inr, Err, Bool, List, subst}
+use Rattle.std.proofs.Common.{inr, Err, List, subst}
 use Rattle.dsa_descriptor.specs.Fences.{barriers_of}
 use Rattle.dsa_operations.specs.declared.operation.Operation.{Operation}
 use Rattle.dsa_operations.specs.Submissions.{PlansEntries}

@@ -2,7 +2,7 @@ use Rattle.std.proofs.Common.{inr, Ok, Err, Bool, List, ap, subst, sym}
 use Rattle.dsa_operations.specs.declared.operation.Operation.{Operation}
 use Rattle.dsa_descriptor.specs.Lists.{AreOfOneOwner}
 use Rattle.dsa_operations.specs.Operations.{spelling_of}
-use Rattle.dsa_operations.specs.Submissions.{operation_submission_of, IsOperationSubmission, PlansEntries}
+use Rattle.dsa_operations.specs.Submissions.{operation_submission_of, CanBeSubmitted, IsOperationSubmission, PlansEntries}
 use Rattle.dsa_operations.proofs.Submitted.{is_good, is_least, not_refused, one_refusal, only_answer}
 use Rattle.dsa_operations.proofs.submitting.plan_entries.Goals as goal
 use Rattle.dsa_operations.proofs.submitting.plan_entries.Goals.{In-Some, In_ok-planned}
@@ -48,3 +48,8 @@ returns-clause-certificate_good c =
 pub returns-clause-refused : goal.returns-clause-refused
 returns-clause-refused c fault told =
     absurd (not_refused c.args.settings.now c.args.operations.now.entries.items c.args.operations.now.barriers.items fault (planned c).can told)
+
+pub returns-in_err-planned-clause-refused : goal.returns-in_err-planned-clause-refused
+returns-in_err-planned-clause-refused c fault told =
+    let can = subst (λ (es : List Operation). CanBeSubmitted c.args.settings.now es) c.deref.ensures.value c.in_default.ensures in
+    absurd (not_refused c.args.settings.now c.args.operations.now.entries.items c.args.operations.now.barriers.items fault can told)

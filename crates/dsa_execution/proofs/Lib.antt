@@ -1,0 +1,12 @@
+pub mod Values
+pub mod Sources
+pub mod Local
+pub mod Lines
+pub mod Operations
+pub mod Runs
+pub mod Left
+pub mod Seeds
+pub mod SamplesHold
+pub mod Alike
+pub mod Planned
+pub mod SampleRun

@@ -1,0 +1,8 @@
+pub mod Checksums
+pub mod Operations
+pub mod Headline
+pub mod Left
+pub mod Seeds
+pub mod Samples
+pub mod Alike
+pub mod Planned

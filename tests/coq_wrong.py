@@ -18,7 +18,7 @@ DEFINITIONS = [
     ("a compare reads its first range alone", "| 5 => [(source d, size d); (target d, size d)]", f"| 5 => {SOURCE}"),
     ("a delta does not read its record", "| 8 => [(source d, delta_size d); (target d, size d)]", f"| 8 => {TARGET}"),
     ("a dualcast reads nothing", f"| 9 => {SOURCE} ", "| 9 => [] "),
-    ("a fill writes nothing", f"| 3 | 4 | 8 => {TARGET}", f"| 3 | 8 => {TARGET}"),
+    ("a fill writes nothing", f"| 3 | 4 | 8 | 17 => {TARGET}", f"| 3 | 8 | 17 => {TARGET}"),
     ("a dualcast writes once", "| 9 => [(target d, size d); (target2 d, size d)]", f"| 9 => {TARGET}"),
     ("a record has 64 bytes", "(record d, 32)", "(record d, 64)"),
     ("a lone piece costs what a batch costs", "match g with [_] => lone s | _ =>", "match g with [] => lone s | _ =>"),
@@ -82,13 +82,23 @@ PROVED = {
         ("the bytes at the end are left out", "b then Some ([], b)", "b then Some ([], [])"),
         ("a barrier begins no section", "if f then now + 1 else now", "if f then now else now"),
         ("an operation is its first piece", "if (n =? 1) &&", "if (1 <=? n) &&"),
+        ("a seed in memory is not read", "(from :: seed_of flags rest, [own])", "([from], [own])"),
+        ("a copy may meet its seed", "(fst (its_touch v)))", "[(its_source v, its_size v)])"),
+        ("beside a checksum others are split", "if split_alike s (map snd (map read_member ops)) then", "if true then"),
     ],
     "Machine": [
         ("a compare looks at one byte less", "difference 0 (size d) b", "difference 0 (size d - 1) b"),
         ("a move goes up over its own source", "then rev l else l", "then l else l"),
+        ("each line of a checksum reads the seed", "(if t =? 0 then begun", "(if t <=? 4 then begun"),
+        ("a copy with a checksum copies nothing", "| 17 => map sum_copy_line l", "| 17 => map sum_line l"),
+        ("a checksum reads six bytes of a seed", "numbers (seed_place d) 4)", "numbers (seed_place d) 6)"),
     ],
     "Runs": [
         ("a piece may begin after one that has failed", "finished d /\\ good d = true", "finished d"),
+    ],
+    "Checksum": [
+        ("a coefficient is not added", "(if b then 2 ^ 32 else 0)", "(if b then 0 else 0)"),
+        ("ends are not inverted", "of_bits (map negb (bits 32 x))", "of_bits (bits 32 x)"),
     ],
     "Engines": [
         ("no engine takes a piece", "h k = None -> done e = 0", "h k <> h k -> done e = 0"),
@@ -102,6 +112,7 @@ PROOFS = {
     "QuickCheck": ("QuickBytes", "QuickLists"),
     "Machine": ("Together", "Locality", "Lines", "Meaning"),
     "Runs": ("Moments",),
+    "Checksum": ("Machine", "Lines", "Remainders"),
     "Engines": ("Turns",),
 }
 # The theories that a judge and the executor read bytes by, each after those that it needs.

@@ -1,23 +1,28 @@
 """Why the plans of random lists have their fences and their groups, and what is worth a warning, by the Python module
 dsa_reasons: one reason for each fence and for each beginning of a group after the first, with the conflict that a look
-at each two pieces finds, a barrier where there is one, and a sentence written by hand here; of every eighth list the
-sentences of the fences are those that `dsa_text explain` prints. tests/bindings.py runs it on the proved archive; by
-hand `DSA_PLANNER_LIBRARY=.. tests/reasons_model.py 20000 7` takes as many lists as one likes, from another seed."""
+at each two pieces finds, a barrier where there is one, and a sentence written by hand here. A third of the lists have
+checksums, which no text has; of every eighth of the others the sentences of the fences are those that `dsa_text
+explain` prints. tests/bindings.py runs it on the proved archive; by hand `DSA_PLANNER_LIBRARY=..
+tests/reasons_model.py 20000 7` takes as many lists as one likes, from another seed."""
 
 import random
 import re
 import subprocess
 import sys
 from collections import Counter
+from dataclasses import dataclass
+from typing import Optional
 
 import model
 from common import program
-from resume_model import drawn_list
-from dsa_planner import BEGINS, FENCED, plan_list_certified
+from resume_model import drawn_ops, listed
+from dsa_planner import BEGINS, FENCED, Refusal, plan_list_certified
 from dsa_reasons import OVERLAP, SHARED_RECORD, UNCHECKED, UNGUARDED, Conflict, ListWarning, Reason, explain_list
 from dsa_reasons import warn_list
 
+CRC, COPY_CRC = 0x10, 0x11
 KINDS = ("fence", "beginning", "barrier", "in a record", "more", "none alone", "as dsa_text")
+OF_CHECKSUMS = ("checksums", "copied", "seed", "seed in a record", "shared by a checksum", "too long")
 WARNINGS = {SHARED_RECORD: "shared record", UNCHECKED: "unchecked", UNGUARDED: "unguarded", OVERLAP: "overlap"}
 SAID = {
     SHARED_RECORD: "piece {}: it or piece {} writes into the completion record of the other",
@@ -25,6 +30,50 @@ SAID = {
     UNGUARDED: "piece {}: what is after its check, up to a barrier, may run even if it fails",
     OVERLAP: "piece {}: its ranges overlap, and only devices with overlapping copy support (GENCAP bit 1) take it",
 }
+
+
+@dataclass(frozen=True)
+class Checksum(model.Op):
+    """CRC generation, or copy with CRC: `second` is the destination of a copy, and `own` the seed, unless that is read
+    from four bytes at `seed_at`. It is never split."""
+
+    seed_at: Optional[int] = None
+
+    def bytes(self, fenced=False):
+        text = super().bytes(fenced)
+        if self.seed_at is None:
+            return text
+        return text[:6] + b"\x01" + text[7:48] + self.seed_at.to_bytes(8, "little") + text[56:]
+
+    def seeds(self):
+        return [] if self.seed_at is None else [(self.seed_at, 4)]
+
+    def sources(self):
+        return [(self.first, self.size), *self.seeds()]
+
+    def targets(self):
+        return [(self.second, self.size)] if self.code == COPY_CRC else []
+
+
+def drawn_checksum(draw, record_at, before):
+    """A checksum of some of the first bytes, whose seed is given, or read from them, perhaps where an earlier operation
+    writes, or in the record of one."""
+    code, size, first = draw.choice((CRC, COPY_CRC)), draw.randrange(1, 25), draw.randrange(128)
+    second = draw.randrange(128) if code == COPY_CRC else 0
+    written = [at for op in before[-2:] for at, _ in op.targets()] + [op.record_at + 16 for op in before[-2:]]
+    seed_at = draw.choice((None, draw.randrange(128), *written))
+    own = draw.randrange(1 << 32) if seed_at is None else 0
+    return Checksum(code, size, record_at, first, second, own, seed_at=seed_at)
+
+
+def with_checksums(draw, ops, transfer):
+    """The operations, but some of them are checksums, as far as a list may have one with that record."""
+    mixed = list(ops)
+    for at in range(len(ops)):
+        tried = [drawn_checksum(draw, ops[at].record_at, mixed[:at]) for _ in range(draw.choice((0, 20)))]
+        may = [op for op in tried if model.fits(op, transfer) and not model.any_meet(op.sources(), op.targets())]
+        mixed[at] = may[0] if may else ops[at]
+    return mixed
 
 
 def expect(right, seed, said):
@@ -142,11 +191,55 @@ def kinds(reasons):
             yield "in a record"
 
 
+def kinds_of_checksums(pieces, reasons, warned):
+    """What is there of checksums."""
+    yield "checksums"
+    yield from ("shared by a checksum" for it in warned if it.other is not None and is_checksum(pieces[it.piece]))
+    for conflict in (reason.conflict for reason in reasons if reason.conflict):
+        one, other = pieces[conflict.earlier], pieces[conflict.later]
+        at = [(conflict.address, 1)]
+        if is_checksum(one) and model.any_meet(one.targets(), at):
+            yield "copied"
+        if is_checksum(other) and model.any_meet(other.seeds(), at):
+            yield "seed" if conflict.record_of is None else "seed in a record"
+
+
+def is_checksum(op):
+    return isinstance(op, Checksum)
+
+
+def refused(call, settings, given):
+    """The number and the first place of a refusal, or None."""
+    try:
+        call(settings, given)
+    except Refusal as refusal:
+        return refusal.number, refusal.first
+    return None
+
+
+def too_long(draw, seed, records):
+    """Of a list with a checksum no operation is split: the first that is too long is refused. Answers the kind."""
+    ops = with_checksums(draw, drawn_ops(draw, records, 8), 8)
+    settings, given, *_ = listed(draw, ops, 8)
+    long = [at for at, op in enumerate(ops) if op.size > 8]
+    if not long or not any(map(is_checksum, ops)):
+        return []
+    for call in (explain_list, warn_list, plan_list_certified):
+        answer = refused(call, settings, given)
+        expect(answer == (37, long[0]), seed, f"operation {long[0]} is too long, {call.__name__} answers {answer}")
+    return ["too long"]
+
+
 def explained(seed):
     """One list; answers the kinds of its reasons."""
     draw = random.Random(seed)
     records, transfer = draw.choice(("apart", "shared", "among data")), draw.choice((8, 4096))
-    settings, given, pieces, barriers = drawn_list(draw, records, transfer)
+    may_sum = draw.random() < 1 / 3
+    if may_sum and transfer == 8:
+        return too_long(draw, seed, records)
+    ops = drawn_ops(draw, records, transfer)
+    ops = with_checksums(draw, ops, transfer) if may_sum else ops
+    settings, given, pieces, barriers = listed(draw, ops, transfer)
     reasons, marks = explain_list(settings, given), plan_list_certified(settings, given).marks
     wrong = fault(pieces, marks, [False, *barriers[1:]], reasons)
     expect(not wrong, seed, wrong)
@@ -155,6 +248,8 @@ def explained(seed):
     for warning in warned:
         expect(str(warning) == SAID[warning.kind].format(warning.piece, warning.other), seed, f"{warning}")
     found = [*kinds(reasons), *(WARNINGS[warning.kind] for warning in warned)]
+    if any(map(is_checksum, pieces)):
+        return [*found, *kinds_of_checksums(pieces, reasons, warned)]
     if seed % 8:
         return found
     said = [str(reason) for reason in reasons if reason.is_fence]
@@ -173,7 +268,7 @@ def made_up():
 def main(count, seed):
     made_up()
     found = Counter(kind for at in range(count) for kind in explained(seed + at))
-    wanted = (*KINDS, *WARNINGS.values())
+    wanted = (*KINDS, *WARNINGS.values(), *OF_CHECKSUMS)
     expect(count < 200 or all(found[kind] for kind in wanted), seed, f"some kind is missing: {found}")
     print(", ".join(f"{kind} {count}" for kind, count in sorted(found.items())))
 

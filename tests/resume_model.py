@@ -48,9 +48,8 @@ def drawn_ops(draw, records, transfer):
     return ops
 
 
-def drawn_list(draw, records, transfer):
+def listed(draw, ops, transfer):
     """Settings, the bytes of a list, half of them with barriers, its pieces, and which have a barrier before them."""
-    ops = drawn_ops(draw, records, transfer)
     asked = [draw.random() < 0.3 for _ in ops] if draw.random() < 0.5 else [False] * len(ops)
     rules = {"lone": draw.choice((1, 10)), "batch": 14, "fence": draw.choice((0, 3, 20)), "staging": 0x100000}
     settings = Settings(greatest_batch=draw.randrange(2, 6), greatest_transfer=transfer, **rules)
@@ -242,7 +241,7 @@ def stopped(seed):
     """One list; answers what came of it."""
     draw = random.Random(seed)
     records, transfer = draw.choice(("apart", "apart", "shared", "among data")), draw.choice((8, 4096))
-    settings, given, pieces, barriers = drawn_list(draw, records, transfer)
+    settings, given, pieces, barriers = listed(draw, drawn_ops(draw, records, transfer), transfer)
     memory = bytearray(draw.randrange(256) for _ in range(MEMORY))
     for piece in pieces:
         memory[piece.record_at : piece.record_at + 32] = bytes(32)

@@ -1,16 +1,34 @@
 """Random submissions, questions, completions and withdrawals, valid and not, by `Tracker` of the Python module beside a
-model of docs/FORMATS.md and dsa_planner.h in sets of addresses. tests/bindings.py runs it on the proved archive; by
-hand `DSA_PLANNER_LIBRARY=.. tests/tracker_model.py 100000 7` takes as many as one likes, from another seed."""
+model of docs/FORMATS.md and dsa_planner.h in sets of addresses; each third list or plan may have checksums.
+tests/bindings.py runs it on the proved archive; by hand `DSA_PLANNER_LIBRARY=.. tests/tracker_model.py 100000 7` takes
+as many as one likes, from another seed."""
 
 import random
 import sys
 from pathlib import Path
+from typing import NamedTuple, Optional
 
 sys.path.insert(0, str(Path(__file__).resolve().parent.parent / "bindings/python"))
 from dsa_planner import Refusal, Settings, Tracker
 
 MOST = 2**64
-MOVE, FILL, COMPARE = 3, 4, 5
+MOVE, FILL, COMPARE, CRC, COPY_CRC = 3, 4, 5, 0x10, 0x11
+
+
+class Operation(NamedTuple):
+    """An operation or a piece of one: `other` is the destination, or of a compare the second source; of a checksum
+    `seed_at` is where its seed is read, if it is in memory."""
+
+    code: int
+    source: int
+    other: int
+    size: int
+    record: int
+    owner: tuple
+    seed_at: Optional[int] = None
+
+    def is_checksum(self):
+        return self.code in (CRC, COPY_CRC)
 
 
 class Model:
@@ -44,15 +62,19 @@ class Model:
         return self.take(reads, writes, also)
 
     def submit(self, operations, greatest, staging, also):
-        """The operations are tuples: operation, source or second source, destination, size, record, owner. No piece is
-        longer than the greatest transfer."""
+        """The list is split into pieces that are no longer than the greatest transfer, unless it has a checksum."""
         if staging[0] % 64 or staging[0] > 2**63:
             return 83, 7
-        owners = [operation[5] for operation in operations]
+        owners = [operation.owner for operation in operations]
         for at, owner in enumerate(owners):
             if owner != owners[0]:
                 return 12, at
         pieces = [piece for operation in operations for piece in split(operation, greatest)]
+        if any(operation.is_checksum() for operation in operations):
+            pieces = operations
+        for at, piece in enumerate(pieces):
+            if piece.size > greatest:
+                return 37, at
         for at, piece in enumerate(pieces):
             if meet(read_by([piece]) + written_by([piece]), [(staging[0], 96 * len(pieces))]):
                 return 33, at
@@ -75,7 +97,7 @@ class Model:
         for group in groups:
             if 3 * len(group) + 2 > self.room:
                 return 121, 3 * len(group) + 2
-        owner = groups[0][0][5]
+        owner = groups[0][0].owner
         if self.owner is not None and self.owner != owner:
             return 125, 0
         self.owner = owner
@@ -111,21 +133,22 @@ def meet(spans, others):
 
 
 def read_by(pieces):
-    reads = [(source, size) for code, source, _, size, _, _ in pieces if code != FILL]
-    return reads + [(other, size) for code, _, other, size, _, _ in pieces if code == COMPARE]
+    reads = [(it.source, it.size) for it in pieces if it.code != FILL]
+    reads += [(it.seed_at, 4) for it in pieces if it.seed_at is not None]
+    return reads + [(it.other, it.size) for it in pieces if it.code == COMPARE]
 
 
 def written_by(pieces):
-    writes = [(target, size) for code, _, target, size, _, _ in pieces if code != COMPARE]
-    return writes + [(record, 32) for *_, record, _ in pieces]
+    writes = [(it.other, it.size) for it in pieces if it.code in (MOVE, FILL, COPY_CRC)]
+    return writes + [(it.record, 32) for it in pieces]
 
 
 def split(operation, greatest):
     """The pieces of an operation, of which no range overlaps another: each has its part of them, and a record."""
-    code, source, other, size, record, owner = operation
+    code, source, other, size, record, owner, _ = operation
     for at in range(0, size, greatest):
         first = source if code == FILL else source + at
-        yield code, first, other + at, min(greatest, size - at), record + 32 * (at // greatest), owner
+        yield Operation(code, first, other + at, min(greatest, size - at), record + 32 * (at // greatest), owner)
 
 
 def emitted(groups, staging):
@@ -144,13 +167,12 @@ def emitted(groups, staging):
 
 
 def spelled(piece):
-    """The 64 bytes of a descriptor."""
-    code, source, other, size, record, (pasid, privileged) = piece
-    flags = 0x0C if code == COMPARE or code == MOVE or code == FILL else 0
-    words = [pasid | privileged << 31, code << 24 | flags]
+    """The 64 bytes of a descriptor, of a checksum without a seed or with its place."""
+    code, source, other, size, record, (pasid, privileged), seed_at = piece
+    words = [pasid | privileged << 31, code << 24 | 0x0C | (0x010000 if seed_at is not None else 0)]
     whole = b"".join(word.to_bytes(4, "little") for word in words) + record.to_bytes(8, "little")
-    whole += source.to_bytes(8, "little") + other.to_bytes(8, "little") + size.to_bytes(4, "little")
-    return whole.ljust(64, b"\0")
+    whole += source.to_bytes(8, "little") + other.to_bytes(8, "little") + size.to_bytes(4, "little") + bytes(12)
+    return (whole + (seed_at or 0).to_bytes(8, "little")).ljust(64, b"\0")
 
 
 class Sequence:
@@ -186,25 +208,33 @@ class Sequence:
         return entry[:4] + bytes([entry[4] | (self.chance.random() < 0.2)]) + entry[5:]
 
     def operations(self):
-        """Operations that planning would read, but perhaps of two owners."""
-        chance, found = self.chance, []
+        """Operations that planning would read, but perhaps of two owners, or too long for a list with a checksum."""
+        chance, found, codes = self.chance, [], self.codes()
         owner = chance.choice([(5, 0), (5, 0), (5, 0), (5, 1), (6, 0)])
         for _ in range(chance.randrange(4)):
-            found.append(self.piece(owner if chance.random() < 0.97 else (7, 1), [1, 8, 8, 20]))
+            found.append(self.piece(codes, owner if chance.random() < 0.97 else (7, 1), [1, 8, 8, 20]))
         return found
 
     def groups(self):
         """Groups of pieces of one owner."""
-        owner, chance = self.chance.choice([(5, 0), (5, 0), (5, 0), (6, 0)]), self.chance
+        owner, chance, codes = self.chance.choice([(5, 0), (5, 0), (5, 0), (6, 0)]), self.chance, self.codes()
         sizes = [chance.choice([1, 1, 2, 3, 9]) for _ in range(chance.choice([1, 2, 3, 5]))]
-        pieces = [self.piece(owner) for _ in range(sum(sizes))]
+        pieces = [self.piece(codes, owner) for _ in range(sum(sizes))]
         return [[pieces.pop() for _ in range(size)] for size in sizes]
 
-    def piece(self, owner, sizes=(1, 8)):
-        source, target = self.chance.sample(range(16), 2)
-        record = 0x100000 + 32 * self.chance.randrange(8)
-        code = self.chance.choice([MOVE, FILL, COMPARE])
-        return code, 4096 * source, 4096 * target, self.chance.choice(sizes), record, owner
+    def codes(self):
+        """Those of a submission's operations: of each third checksums may be among them."""
+        return [MOVE, FILL, COMPARE] + [CRC, COPY_CRC] * (self.chance.random() < 1 / 3)
+
+    def piece(self, codes, owner, sizes=(1, 8)):
+        chance = self.chance
+        source, target, seed = chance.sample(range(16), 3)
+        number, read = chance.sample(range(8), 2)
+        code, size, record = chance.choice(codes), chance.choice(sizes), 0x100000 + 32 * number
+        if code not in (CRC, COPY_CRC):
+            return Operation(code, 4096 * source, 4096 * target, size, record, owner)
+        seed_at = chance.choice([None, 4096 * seed - (seed > 0) * chance.randrange(4), 0x100000 + 32 * read + 16])
+        return Operation(code, 4096 * source, 4096 * target * (code == COPY_CRC), size, record, owner, seed_at)
 
     def step(self):
         """A call by both; answers what it was, what the tracker answered, and what the model did."""
@@ -273,7 +303,7 @@ def main(count, seed):
                 print("\n".join(map(str, trail[-12:])))
                 return 1
     refusals = {("groups", 128), ("groups", 121), ("groups", 125), ("list", 12), ("list", 125), ("complete", 122)}
-    refusals |= {("list", 33), ("list", 83), ("complete", 123), ("waits", 122), ("withdraw", 122)}
+    refusals |= {("list", 33), ("list", 37), ("list", 83), ("complete", 123), ("waits", 122), ("withdraw", 122)}
     lacking = sorted((refusals | {(call, n) for call in ("spans", "list") for n in (120, 121, 124)}) - kinds)
     print(f"{count} sequences, {calls} calls" + (f", but none refused as {lacking}" if lacking else ""))
     return 1 if lacking else 0

@@ -226,8 +226,7 @@ SAID = {
     "failing": DELTA.format("do not increase (status 7)") + DELTA.format("are out of range (status 8)") + DONE
     + CHECKED.format(0, "the bytes are equal"),
     "checksums": 3 * DONE + CHECKED.format(1, "the first difference is at byte 0") + KEPT.format(3)
-    + "refused 2: descriptor 0: the operation code is not one of a move, fill, compare, compare "
-    "pattern, delta or dualcast, or of a checksum if there may be one\n",
+    + DONE,
     "refused": "the list has not been run since it was changed; run it\nthe list is empty; add an operation\n"
     "refused 5: descriptor 1: the transfer size is 0\n"
     "operation 0 has 4294967296 bytes, and one may have at most 4294967295; use several\n"

@@ -10,12 +10,10 @@
  *            that is split the first piece is after the barrier, and the flag on the first operation says nothing. A
  *            plan keeps each barrier, by a fence or a new group, and no legal plan that does costs less.
  *
- * Checksums: lists of dsa_plan_list, dsa_plan_list_certified and dsa_check_list may have CRC generation (0x10) and copy
- *            with CRC (0x11). Of a list with one no operation is split: one longer than greatest_transfer is refused
- *            (37). A seed in memory is read by its operation: a checksum that reads it in the record of another comes
- *            after that one. What such a list leaves in memory is not proved. Other calls that take a list refuse the
- *            two codes (2), and those that take bytes to submit refuse them as DSA_ENTRY with 2 inside;
- *            dsa_count_pieces counts as of other operations.
+ * Checksums: a list, and bytes to submit, may have CRC generation (0x10) and copy with CRC (0x11), but dsa_prepare and
+ *            dsa_resume refuse the two codes (2). Of a list with one no operation is split: one longer than
+ *            greatest_transfer is refused (37); dsa_count_pieces counts as of other operations. A seed in memory is
+ *            read by its operation: a checksum that reads it in the record of another comes after that one.
  *
  * Proved:    of each call but dsa_planner_version, for all inputs of a caller that does what is asked below: which
  *            number it returns, and what it has written then, as its comment here says. The contracts are at the
@@ -51,7 +49,7 @@
  *     written (not const). With length 0 it is not read, and any aligned non-null address will do.
  *   - no output of a call overlaps another output or an input of that call. Outputs need not be initialised.
  *   - the calling thread has 256 KiB of stack free for dsa_check, dsa_check_list and dsa_judge, and 64 KiB for the
- *     other calls (measured: 166,808 bytes for dsa_check_list). Main threads and those of glibc have 8 MiB if no limit
+ *     other calls (measured: 167,032 bytes for dsa_check_list). Main threads and those of glibc have 8 MiB if no limit
  *     is set lower. A thread of musl has 128 KiB, too little for these three, unless pthread_attr_setstacksize gives it
  *     more.
  *   - its rattle_alloc, rattle_realloc and rattle_dealloc, if it has its own, return, and may be called by several
@@ -470,7 +468,6 @@ uint64_t dsa_warning_text(const struct dsa_warning *warning, char *text, size_t 
 /*
  * Checks bytes to submit, whoever made them, with a certificate of this version, whoever wrote it. The lengths are those
  * of the plan, not of buffers: portal_len and staging_len of struct dsa_planned, n + 1 prices and n pairs for n pieces.
- * Bytes that submit a checksum are refused; dsa_check_list takes them.
  *
  * Returns 0: cost is what the plan costs that the bytes submit; each conflict within a batch has its fence, and no legal
  * plan of these pieces costs less. Returns another number: refusal has it, and nothing else was written.
@@ -536,8 +533,8 @@ struct dsa_resumed {
  * that source restored.
  *
  * Returns another number: refusal has it, and nothing else was written: the first refusal of dsa_plan_list but for
- * DSA_NO_ROOM, then DSA_RECORDS, then DSA_SHARED_RECORD, DSA_NOT_FAILED, DSA_PASSED_BARRIER, then
- * DSA_NO_ROOM_FOR_LIST.
+ * DSA_NO_ROOM (a checksum is refused as an unknown code is, 2), then DSA_RECORDS, then DSA_SHARED_RECORD,
+ * DSA_NOT_FAILED, DSA_PASSED_BARRIER, then DSA_NO_ROOM_FOR_LIST.
  * DSA_SHARED_RECORD: a record that another piece writes, with its data or its own record, does not say how its piece
  * has ended. Give each piece a record of its own before the next run. Now, if only pieces of groups that are known to
  * have completed, by the records of their batches, share records, give the pieces from the first entry on whose status
@@ -609,7 +606,8 @@ struct dsa_prepared_info {
  *
  * Returns 0: rows begins with the info->rows rows of the prepared list, and its rest is unchanged; refusal is not
  * written. Returns another number: refusal has it, and nothing else was written. What dsa_plan_list refuses comes
- * first, then 100 to 102, then DSA_NO_ROOM_FOR_ROWS: refusal.first is the number of rows that are needed.
+ * first (a checksum is refused as an unknown code is, 2), then 100 to 102, then DSA_NO_ROOM_FOR_ROWS: refusal.first is
+ * the number of rows that are needed.
  */
 uint32_t dsa_prepare(const struct dsa_settings *settings,
                      const uint64_t *table, size_t table_len,
@@ -684,14 +682,14 @@ uint32_t dsa_track_begin(uint64_t *words, size_t words_len,
 
 /*
  * Takes a list as a submission, 64 bytes for each operation: what the pieces into which these settings split it read
- * and write, records included, and the staging_len bytes of the staging area at `staging`, which count as written.
- * settings->staging is not read. A barrier orders nothing between submissions. All pieces of a tracker have one PASID
- * and privilege. The submission gets the first free slot and waits for the outstanding ones that conflict with it, and
- * for those of `also` that are outstanding.
+ * and write, records and seeds in memory included, and the staging_len bytes of the staging area at `staging`, which
+ * count as written. settings->staging is not read. A barrier orders nothing between submissions. All pieces of a
+ * tracker have one PASID and privilege. The submission gets the first free slot and waits for the outstanding ones that
+ * conflict with it, and for those of `also` that are outstanding.
  *
  * Returns 0: slot and waits are written. Returns another number: refusal has it, and nothing else was written. What
- * planning refuses of the list with this staging address comes first, 83 (setting 7 is `staging`), 1 to 13, and 30 to
- * 35; then DSA_NOT_A_TRACKER, 120, 121, 124 and 125. It allocates as much as the pieces take.
+ * planning refuses of the list with this staging address comes first, 83 (setting 7 is `staging`), 1 to 13, 30 to 35
+ * and 37; then DSA_NOT_A_TRACKER, 120, 121, 124 and 125. It allocates as much as the pieces take.
  */
 uint32_t dsa_track_list(uint64_t *words, size_t words_len,
                         const struct dsa_settings *settings,

@@ -449,8 +449,8 @@ def plan_list(settings: Settings, operations: Bytes) -> Summary:
     one that failed, the device starts nothing of it, nor of what comes after it, before all operations before it have
     ended with status 1. No plan that keeps each barrier costs less.
 
-    Of a list with a checksum (`crc`, `copy_crc`) no operation is split. What such a list leaves in memory is not
-    proved, and `check` does not take it."""
+    Of a list with a checksum (`crc`, `copy_crc`) no operation is split: one that is longer than the greatest transfer
+    is refused (37)."""
     raw, table, entries = settings._raw()
     listed, size = _given("operations", operations)
     pieces = min(int(_library.dsa_count_pieces(raw, table, entries, listed, size)), MOST_PIECES)
@@ -518,7 +518,8 @@ def resume(
     """What is left to submit of a list that was planned with these settings, once a submission has stopped: the pieces
     that have not finished, by their completion records, 32 bytes for each in their order (first byte 0: it waits; 1, 2:
     it has finished). Those of a move to a higher address within its own range run from the end, and so do its records.
-    Clear the records of what is left, and plan it: docs/USING.md says when that is right. Raises `Refusal`.
+    Clear the records of what is left, and plan it: docs/USING.md says when that is right. Raises `Refusal`, also of a
+    list with a checksum (2).
 
     A piece that failed is not done again if `given_up` has its number (that of the piece, not of the operation). If
     such a piece, or one with status 2, is before a barrier, all pieces after that are left out, and a later call
@@ -588,8 +589,8 @@ class Prepared:
 
 def prepare(settings: Settings, operations: Bytes, regions: Sequence[Tuple[int, int]]) -> Prepared:
     """Plans a list once, for buffers at any addresses: the regions, each its first address and its length, are those
-    with which the list was made, in the order of their addresses. What is filled keeps its barriers. Raises
-    `Refusal`."""
+    with which the list was made, in the order of their addresses. What is filled keeps its barriers. Raises `Refusal`,
+    also of a list with a checksum (2)."""
     raw, table, entries = settings._raw()
     listed, size = _given("operations", operations)
     pieces = min(int(_library.dsa_count_pieces(raw, table, entries, listed, size)), MOST_PIECES)

@@ -4,12 +4,12 @@
  * checksums, with seeds that they are given or read, also in records of earlier ones. Of all plans those are legal that
  * separate each conflict, as told here by what operations read and write, and that begin a group or set a fence at each
  * barrier; the least cost of these is the answer, and what is submitted keeps each barrier. A flag that is no barrier
- * changes no byte, and what is refused of the list without flags is refused. Of each plan of a list without checksums
- * dsa_judge says what it costs, or which barrier it does not keep; it, preparing, explaining, warning and checking
- * bytes alone refuse checksums by their code.
+ * changes no byte, and what is refused of the list without flags is refused. Of each plan dsa_judge says what it costs,
+ * or which barrier it does not keep. Preparing and resuming refuse checksums by their code.
  * With the certificate of these costs dsa_check_list accepts the bytes of those plans alone that are legal, keep the
  * barriers and cost the least, and no bytes of other pieces; and with its own certificate what dsa_plan_list_certified
- * writes, which is what dsa_plan_list does. */
+ * writes, which is what dsa_plan_list does. With the certificate of the same pieces without barriers dsa_check accepts
+ * the bytes of those plans alone that are legal and cost the least, and of no checksum that a list may not have. */
 #include <inttypes.h>
 #include <stdio.h>
 #include <stdlib.h>
@@ -317,13 +317,36 @@ static void try_judging(const struct list *l, const uint8_t *marks, uint64_t own
         fail(l, "the barrier that a plan does not keep", r.second, passed_at);
 }
 
-/* Each plan is accepted exactly if it is legal, keeps the barriers and costs the least. */
-static void try_plans(const struct list *l, const struct certificate *c, uint8_t *marks, size_t next)
+/* The number of the refusal of these bytes by themselves, or 0 and their cost. */
+static uint32_t checked_alone(const struct list *l, const struct bytes *b, const struct certificate *c,
+                              uint64_t *cost, struct dsa_refusal *r)
+{
+    return dsa_check(&l->settings, l->table, l->entries, b->portal, b->portal_len, b->staging, b->staging_len,
+                     l->settings.version, c->prices, l->count + 1, c->pairs, l->count, cost, r);
+}
+
+/* The bytes of a plan are accepted by themselves exactly if it is legal and none costs less, whatever the barriers. */
+static void try_alone(const struct list *l, const struct bytes *b, const struct certificate *alone, uint64_t own)
+{
+    struct dsa_refusal r = {0};
+    uint64_t cost = 7;
+    const uint32_t code = checked_alone(l, b, alone, &cost, &r);
+    uint32_t want = own == alone->prices[l->count] ? DSA_OK : DSA_TOTAL;
+    want = own == UINT64_MAX ? DSA_PLAN : want;
+    if (code == DSA_BATCH_FIELDS && want == DSA_PLAN) /* a batch is too large */
+        return;
+    if (code != want || (code ? cost != 7 : cost != own))
+        fail(l, "checking the bytes of a plan", code, want);
+}
+
+/* Each plan is accepted for the list exactly if it is legal, keeps the barriers and costs the least. */
+static void try_plans(const struct list *l, const struct certificate *c, const struct certificate *alone,
+                      uint8_t *marks, size_t next)
 {
     if (next < l->count) {
         for (uint8_t mark = next ? 0 : DSA_BEGINS; mark <= (next ? DSA_FENCED : DSA_BEGINS); mark++) {
             marks[next] = mark;
-            try_plans(l, c, marks, next + 1);
+            try_plans(l, c, alone, marks, next + 1);
         }
         return;
     }
@@ -334,8 +357,8 @@ static void try_plans(const struct list *l, const struct certificate *c, uint8_t
     for (size_t k = 1; k < l->count; k++)
         want = l->is_barrier[k] && !marks[k] ? DSA_PLAN : want;
     const uint64_t own = judged(l, marks);
-    if (!l->has_checksums)
-        try_judging(l, marks, own);
+    try_judging(l, marks, own);
+    try_alone(l, &b, alone, own);
     if (own == UINT64_MAX)
         want = DSA_PLAN;
     else if (want == DSA_OK && own != c->prices[l->count])
@@ -401,9 +424,11 @@ static void try_certified(const struct list *l, const struct bytes *b, const str
 /* What is checked of the list: its plans, other pieces, and what planning answers. */
 static void try_checks(struct list *l)
 {
-    const struct certificate c = certificate_of(l);
+    struct list plain = *l;
+    memset(plain.is_barrier, 0, sizeof plain.is_barrier);
+    const struct certificate c = certificate_of(l), alone = certificate_of(&plain);
     uint8_t marks[MOST];
-    try_plans(l, &c, marks, 0);
+    try_plans(l, &c, &alone, marks, 0);
     try_others(l, &c);
     struct bytes b;
     struct dsa_planned planned;
@@ -428,38 +453,74 @@ static int is_refused(const struct list *l, uint32_t code, const struct dsa_refu
     return code == DSA_OPCODE && r->number == DSA_OPCODE && r->first == first;
 }
 
-/* Calls that take no checksums refuse the first one by its code, and so does what reads the bytes alone. */
+/* Calls that take no checksums refuse the first one by its code. */
 static void try_refused(const struct list *l)
 {
     const struct dsa_settings *s = &l->settings;
     const struct dsa_region region = {0, UINT64_C(1) << 40};
     struct dsa_prepared_row rows[DSA_PREPARED_ROOM(2, MOST)];
     struct dsa_prepared_info info;
-    struct dsa_reason reasons[MOST];
-    struct dsa_warning warnings[2 * MOST];
+    struct dsa_resumed resumed = {7, 7, 7};
     struct dsa_refusal r = {0};
-    struct bytes b;
-    struct dsa_planned planned;
-    uint8_t marks[MOST] = {DSA_BEGINS};
-    uint64_t cost = 7, count = 7, prices[MOST + 1] = {0};
-    struct dsa_pair pairs[MOST] = {{0, 0}};
+    const uint8_t records[32 * MOST] = {0};
+    uint8_t rest[ROOM];
     const size_t len = 64 * l->count, room = sizeof rows / sizeof *rows;
-    uint32_t code = dsa_judge(s, l->table, l->entries, l->bytes, len, marks, l->count, &cost, &r);
-    int right = is_refused(l, code, &r);
-    code = dsa_prepare(s, l->table, l->entries, l->bytes, len, &region, 1, rows, room, &info, &r);
-    right &= is_refused(l, code, &r);
-    code = dsa_explain_list(s, l->table, l->entries, l->bytes, len, reasons, MOST, &count, &r);
-    right &= is_refused(l, code, &r);
-    code = dsa_warn_list(s, l->table, l->entries, l->bytes, len, warnings, 2 * MOST, &count, &r);
-    right &= is_refused(l, code, &r);
-    if (!right || cost != 7 || count != 7)
-        fail(l, "a checksum is not refused", r.number, 2);
-    code = dsa_plan_list(s, l->table, l->entries, l->bytes, len, b.portal, ROOM, b.staging, STAGED, &planned, &r);
-    if (code)
-        fail(l, "refused", code, 0);
-    if (dsa_check(s, l->table, l->entries, b.portal, planned.portal_len, b.staging, planned.staging_len, s->version,
-                  prices, l->count + 1, pairs, l->count, &cost, &r) != DSA_ENTRY || r.inner != DSA_OPCODE || cost != 7)
-        fail(l, "bytes with a checksum are not refused", r.number, r.inner);
+    uint32_t code = dsa_prepare(s, l->table, l->entries, l->bytes, len, &region, 1, rows, room, &info, &r);
+    if (!is_refused(l, code, &r))
+        fail(l, "preparing takes a checksum", code, DSA_OPCODE);
+    code = dsa_resume(s, l->table, l->entries, l->bytes, len, records, 32 * l->count, records, 0, 0, rest, sizeof rest,
+                      &resumed, &r);
+    if (!is_refused(l, code, &r) || resumed.rest_len != 7)
+        fail(l, "resuming takes a checksum", code, DSA_OPCODE);
+}
+
+/* A checksum as a list may not have it, and the cause. */
+static uint32_t spoil(const struct list *l, uint8_t *d)
+{
+    switch (drawn(6)) {
+    case 0: /* a code of data integrity fields */
+        d[7] = 0x12;
+        return DSA_OPCODE;
+    case 1: /* a flag that no checksum has */
+        d[6] |= 0x08;
+        return DSA_FLAG_BITS;
+    case 2: /* a byte that none uses */
+        d[44 + drawn(4)] = 1;
+        return DSA_RESERVED;
+    case 3: /* its seed is the checksum that it makes */
+        dsa_seed_from(d, 0);
+        memcpy(d + 48, d + 8, 8);
+        return DSA_RECORD_MEETS_DATA;
+    case 4: /* it is longer than the greatest transfer */
+        dsa_put_crc(d, 0x40000, l->settings.greatest_transfer + 1, 0, 0x900000);
+        return DSA_OVER_TRANSFER;
+    default: /* its seed is in the staging area */
+        dsa_seed_from(d, l->settings.staging + drawn((uint32_t)(96 * l->count)));
+        return DSA_STAGING_MEETS;
+    }
+}
+
+/* A checksum that no list may have is refused for its own cause, submitted by itself or in a batch; and so is its list
+ * when a plan is judged, for which the staging area does not count. */
+static void try_spoilt(const struct list *l)
+{
+    const struct certificate none = {{0}, {{0}}};
+    uint8_t marks[MOST] = {DSA_BEGINS};
+    struct list spoilt = *l;
+    struct dsa_refusal r = {0};
+    uint64_t cost = 7;
+    const size_t last = l->count - 1;
+    for (size_t k = 1; k < l->count; k++)
+        marks[k] = k % l->settings.greatest_batch ? DSA_FENCED : DSA_BEGINS;
+    const uint32_t want = spoil(l, spoilt.plain + 64 * last);
+    const struct bytes b = emitted(&spoilt, marks);
+    const uint32_t code = checked_alone(l, &b, &none, &cost, &r);
+    if (code != DSA_ENTRY || r.inner != want || r.first != last || cost != 7)
+        fail(&spoilt, "a submitted checksum that no list may have", r.inner, want);
+    const uint32_t judged_as = dsa_judge(&l->settings, l->table, l->entries, spoilt.plain, 64 * l->count, marks,
+                                         l->count, &cost, &r);
+    if (want != DSA_STAGING_MEETS && (judged_as != want || r.first != last || cost != 7))
+        fail(&spoilt, "judging a checksum that no list may have", judged_as, want);
 }
 
 /* What is filled of the prepared list is what planning it at its new addresses answers. */
@@ -528,9 +589,10 @@ int main(int argc, char **argv)
         draw(&l);
         try_list(&l);
         try_checks(&l);
-        if (l.has_checksums)
+        if (l.has_checksums) {
             try_refused(&l);
-        else
+            try_spoilt(&l);
+        } else
             try_prepared(&l);
         try_refusal(&l);
     }

@@ -1,6 +1,6 @@
-/* Refuses each allocation of each call in turn, by memory functions of its own, and of a list with barriers all after
- * it, too, since such a list is first read as one without: the answer has to be 73, no output but the refusal may have
- * changed, and nothing may be kept. Then each call needs no more than it took with ample memory. */
+/* Refuses each allocation of each call in turn, by memory functions of its own, and of a list with barriers or with
+ * checksums all after it, too, since such a list is first read as one without: the answer has to be 73, no output but
+ * the refusal may have changed, and nothing may be kept. Then a call needs no more than it took with ample memory. */
 #include <inttypes.h>
 #include <stdio.h>
 #include <stdlib.h>
@@ -157,20 +157,24 @@ static void tell(int is_warning, const char *said)
     }
 }
 
-int main(void)
+/* Moves of 64 bytes, each third of which reads what the one before writes, or every other one a copy with CRC; and
+ * what planning them answers. */
+static void put_inputs(int has_checksums)
 {
     struct dsa_refusal r;
-    for (uint64_t i = 0; i < N; i++) { /* moves of 64 bytes, each third of which reads what the one before writes */
+    memset(list, 0, sizeof list);
+    for (uint64_t i = 0; i < N; i++) {
         uint8_t *d = list + 64 * i;
         uint64_t fields[3] = {0x800000 + 32 * i, 0x1000 * (i % 3 == 2 ? i - 1 : i + 100), 0x1000 * i};
         d[4] = 0x0c;
-        d[7] = 0x03;
+        d[7] = has_checksums && i % 2 ? 0x11 : 0x03;
         memcpy(d + 8, fields, 24);
         d[32] = 64;
     }
     memcpy(fenced, list, sizeof fenced);
     for (uint64_t i = 0; i < N; i += 3)
         fenced[64 * i + 4] |= 1;
+    refused_at = 0;
     if (call(1, &r) != DSA_OK)
         fail("refused with ample memory", 1, 0);
     memcpy(portal_in, outputs.portal, sizeof portal_in);
@@ -179,30 +183,46 @@ int main(void)
     memcpy(prices_in, outputs.prices, sizeof prices_in);
     memcpy(pairs_in, outputs.pairs, sizeof pairs_in);
     planned_in = outputs.planned;
-    for (int which = 0; which < CALLS; which++) {
-        refused_at = asked = 0;
-        are_more_refused = which >= 9;
-        if (call(which, &r) != DSA_OK || live != 0 || asked == 0)
-            fail("refused with ample memory, or kept some", which, 0);
-        uint64_t growths = asked;
-        memset(&before, 0xa5, sizeof before);
-        for (refused_at = 1; refused_at <= growths; refused_at++) {
-            const struct dsa_refusal want = {DSA_MEMORY, 0, 0, 0};
-            asked = 0;
-            memset(&outputs, 0xa5, sizeof outputs);
-            memset(&r, 0xa5, sizeof r);
-            if (call(which, &r) != DSA_MEMORY || memcmp(&r, &want, sizeof r) != 0)
-                fail("not refused 73", which, refused_at);
-            if (memcmp(&outputs, &before, sizeof before) != 0)
-                fail("an output has changed", which, refused_at);
-            if (live != 0)
-                fail("a block was kept", which, refused_at);
-        }
-        asked = refused_at = 0;
-        if (call(which, &r) != DSA_OK || asked != growths)
-            fail("refused afterwards", which, growths + 1);
-        printf("call %d: %" PRIu64 " allocations refused in turn\n", which, growths);
+}
+
+/* Refuses each allocation of a call, perhaps with all after it. */
+static void refuse_each(int which, int are_more)
+{
+    struct dsa_refusal r;
+    refused_at = asked = 0;
+    are_more_refused = are_more;
+    if (call(which, &r) != DSA_OK || live != 0 || asked == 0)
+        fail("refused with ample memory, or kept some", which, 0);
+    uint64_t growths = asked;
+    memset(&before, 0xa5, sizeof before);
+    for (refused_at = 1; refused_at <= growths; refused_at++) {
+        const struct dsa_refusal want = {DSA_MEMORY, 0, 0, 0};
+        asked = 0;
+        memset(&outputs, 0xa5, sizeof outputs);
+        memset(&r, 0xa5, sizeof r);
+        if (call(which, &r) != DSA_MEMORY || memcmp(&r, &want, sizeof r) != 0)
+            fail("not refused 73", which, refused_at);
+        if (memcmp(&outputs, &before, sizeof before) != 0)
+            fail("an output has changed", which, refused_at);
+        if (live != 0)
+            fail("a block was kept", which, refused_at);
     }
+    asked = refused_at = 0;
+    if (call(which, &r) != DSA_OK || asked != growths)
+        fail("refused afterwards", which, growths + 1);
+    printf("call %d: %" PRIu64 " allocations refused in turn\n", which, growths);
+}
+
+int main(void)
+{
+    struct dsa_refusal r;
+    put_inputs(1);
+    for (int which = 0; which < CALLS; which++)
+        if (which != 4 && which != 8) /* preparing and resuming take no checksums */
+            refuse_each(which, 1);
+    put_inputs(0);
+    for (int which = 0; which < CALLS; which++)
+        refuse_each(which, which >= 9);
     tell(0, "a barrier, and 7 after 5, write after read at 0x10 (record of 7), and 2 more");
     tell(1, "piece 7: it or piece 5 writes into the completion record of the other");
     refused_at = 1;

@@ -1,6 +1,6 @@
 /* Measures how much stack each call takes, on lists of 2 to 65,536 moves, and, if it takes checksums, with one in place
- * of the first move: stack MOST_FOR_PLANNING MOST_FOR_CHECKING. It prints the greatest number of bytes for each call,
- * and fails if one is above what the header asks of a caller. */
+ * of the first move, and with checksums alone: stack MOST_FOR_PLANNING MOST_FOR_CHECKING. It prints the greatest number
+ * of bytes for each call, and fails if one is above what the header asks of a caller. */
 #include <pthread.h>
 #include <stdio.h>
 #include <stdlib.h>
@@ -9,7 +9,7 @@
 
 #include <dsa_planner.h>
 
-enum { MOST = DSA_MOST_PIECES, STACK = 1 << 20, CALLS = 13 };
+enum { MOST = DSA_MOST_PIECES, STACK = 1 << 20, CALLS = 14 };
 
 static const struct dsa_settings settings = {1, 1024, 4096, 10, 14, 3, UINT64_C(1) << 40};
 static uint8_t list[64 * MOST], records[32 * MOST], portal[64 * MOST], staging[80 * MOST], marks[MOST];
@@ -18,6 +18,7 @@ static struct dsa_pair pairs[MOST];
 static struct dsa_planned planned;
 static struct dsa_resumed resumed;
 static struct dsa_reason reasons[MOST];
+static struct dsa_warning warnings[2 * MOST];
 static struct dsa_refusal refusal;
 static size_t len;
 static const struct dsa_region regions[2] = {{0, UINT64_C(0x80000000)}, {UINT64_C(0x80000000), 32 * MOST}};
@@ -92,6 +93,9 @@ static void *call(void *which)
     case 12:
         code = dsa_explain_list(s, &s->batch, 0, list, len, reasons, MOST, &cost, &refusal);
         break;
+    case 13:
+        code = dsa_warn_list(s, &s->batch, 0, list, len, warnings, 2 * MOST, &cost, &refusal);
+        break;
     default: /* large groups, and many, are refused once they are read */
         code = dsa_track_begin(words, sizeof words / sizeof *words, 64, 1024, 13, 12, &refusal);
         if (code == DSA_OK)
@@ -132,7 +136,7 @@ int main(int argc, char **argv)
 {
     static const char *const names[CALLS] = {"count_pieces", "plan_list", "plan_list_certified", "check", "judge",
                                              "check_list", "prepare", "fill", "track_list", "track_complete",
-                                             "track_groups", "resume", "explain_list"};
+                                             "track_groups", "resume", "explain_list", "warn_list"};
     static const uint64_t lengths[] = {2, 63, 65, 3000, MOST};
     size_t greatest[CALLS] = {0}, limits[2] = {0, 0};
     if (argc != 3)
@@ -140,14 +144,14 @@ int main(int argc, char **argv)
     for (int i = 0; i < 2; i++)
         limits[i] = strtoull(argv[i + 1], NULL, 10);
     size_t base = touched_by(nothing, 0);
-    for (int k = 0; k < 10; k++) {
-        const int has_checksum = k % 2;
-        put_moves(lengths[k / 2]);
-        if (has_checksum)
-            list[7] = 0x11;
+    for (int k = 0; k < 15; k++) {
+        const uint64_t n = lengths[k / 3], checksums = (const uint64_t[]){0, 1, n}[k % 3];
+        put_moves(n);
+        for (uint64_t i = 0; i < checksums; i++)
+            list[64 * i + 7] = 0x11;
         for (int which = 0; which < CALLS; which++) {
-            if (has_checksum && which != 1 && which != 2 && which != 5)
-                continue; /* they refuse it */
+            if (checksums && (which == 6 || which == 7 || which == 11))
+                continue; /* preparing and resuming refuse them */
             size_t bytes = touched_by(call, which) - base;
             greatest[which] = bytes > greatest[which] ? bytes : greatest[which];
         }

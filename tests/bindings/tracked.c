@@ -82,7 +82,7 @@ static struct dsa_span *some_spans(size_t *len) {
     return spans;
 }
 
-/* Moves, or bytes of no descriptor. */
+/* Moves, some of which are copies with CRC, or bytes of no descriptor. */
 static uint8_t *some_list(size_t *len) {
     *len = below(8) ? 64 * below(3) : below(130);
     uint8_t *list = block(*len);
@@ -92,7 +92,7 @@ static uint8_t *some_list(size_t *len) {
         uint32_t size = 1 + (uint32_t)below(4096);
         list[at] = below(8) == 0;
         list[at + 4] = 0x0c;
-        list[at + 7] = 0x03;
+        list[at + 7] = below(4) ? 0x03 : 0x11;
         memcpy(list + at + 8, places, sizeof places);
         memcpy(list + at + 32, &size, sizeof size);
     }

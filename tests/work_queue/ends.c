@@ -176,12 +176,12 @@ static int failing(void)
 }
 
 /* Checksums, of vectors of RFC 3720 and of "123456789": in one, after a copy of its beginning, and of bytes elsewhere.
- * A list with one does not go on after a failed check or an absent page. A queue with lists in flight has none. */
+ * A list with one does not go on after a failed check or an absent page. In flight it waits for what it reads. */
 static int checksums(void)
 {
     const struct dsa_queue_options o = {.flags = DSA_QUEUE_IN_FLIGHT};
     struct dsa_queue *queue = opened(NULL), *tracked = opened(&o);
-    struct dsa_list *list = dsa_list_get(queue), *other = dsa_list_get(tracked);
+    struct dsa_list *list = dsa_list_get(queue), *other = dsa_list_get(tracked), *before = dsa_list_get(tracked);
     memcpy(a, "123456789", 9);
     memset(c, 0xff, 32);
     dsa_list_crc(list, a, 9, 0);
@@ -207,7 +207,13 @@ static int checksums(void)
     dsa_list_copy_crc(list, a, mapped(PROT_NONE), 9, 0);
     right = ends(list, DSA_LIST_FAILED) && right && !dsa_list_result(list, 0).has_checksum;
     dsa_list_crc(other, a, 9, 0);
-    right = ends(other, DSA_LIST_REFUSED) && right && !dsa_list_result(other, 0).has_checksum;
+    right = ends(other, DSA_LIST_DONE) && right && dsa_list_result(other, 0).checksum == 0xe3069283;
+    dsa_list_move(before, a, b + 2 * PAGE, 9);
+    dsa_list_clear(other);
+    dsa_list_crc(other, b + 2 * PAGE, 9, 0);
+    right = dsa_list_start(before) == DSA_LIST_RUNNING && dsa_list_start(other) == DSA_LIST_RUNNING && right;
+    right = dsa_list_wait(other) == DSA_LIST_DONE && dsa_list_wait(before) == DSA_LIST_DONE && right;
+    right = right && dsa_list_result(other, 0).checksum == 0xe3069283;
     dsa_queue_close(tracked);
     dsa_queue_close(queue);
     return right;

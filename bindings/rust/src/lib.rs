@@ -333,8 +333,8 @@ pub fn plan_into(
 /// all operations before it have ended with status 1. No legal plan that keeps each barrier costs less. The
 /// certificate is for [`check_list`], and without barriers for [`check`], too.
 ///
-/// Of a list with a checksum ([`Descriptor::crc`], [`Descriptor::copy_crc`]) no operation is split. What such a list
-/// leaves in memory is not proved, and [`check`] does not take it.
+/// Of a list with a checksum ([`Descriptor::crc`], [`Descriptor::copy_crc`]) no operation is split: one that is longer
+/// than the greatest transfer is refused.
 ///
 /// # Errors
 /// The first fault of the list or the settings; [`Cause::Memory`].
@@ -545,12 +545,12 @@ pub struct LeftOut {
 /// count them.
 ///
 /// # Errors
-/// The first fault of the settings or the list; [`Cause::Records`]; [`Cause::SharedRecord`] if a piece writes into the
-/// record of another, which then does not say how its own piece has ended; [`Cause::NotFailed`];
-/// [`Cause::PassedBarrier`] if a piece has begun though another has not succeeded and a barrier is between them;
-/// [`Cause::Memory`]. Of a list with shared records give the pieces from the first entry on whose status is not 1, if
-/// only pieces of groups share them that have completed by the records of their batches; else restore the memory, and
-/// run the whole list with a record for each piece.
+/// The first fault of the settings or the list, which must have no checksums; [`Cause::Records`];
+/// [`Cause::SharedRecord`] if a piece writes into the record of another, which then does not say how its own piece has
+/// ended; [`Cause::NotFailed`]; [`Cause::PassedBarrier`] if a piece has begun though another has not succeeded and a
+/// barrier is between them; [`Cause::Memory`]. Of a list with shared records give the pieces from the first entry on
+/// whose status is not 1, if only pieces of groups share them that have completed by the records of their batches; else
+/// restore the memory, and run the whole list with a record for each piece.
 ///
 /// ```
 /// # use dsa_planner::{list_of, resume, BatchPrice, Descriptor, LeftOrder, Settings};

@@ -54,8 +54,8 @@ pub struct Prepared {
 /// the row of its pieces' completion records, lies in one of them.
 ///
 /// # Errors
-/// What [`plan_list`](crate::plan_list) refuses; then [`Cause::RegionWrap`](crate::Cause::RegionWrap), `RegionOrder`
-/// and `Outside`.
+/// What [`plan_list`](crate::plan_list) refuses, and checksums; then [`Cause::RegionWrap`](crate::Cause::RegionWrap),
+/// `RegionOrder` and `Outside`.
 pub fn prepare(settings: &Settings, list: &[u8], regions: &[Region]) -> Result<Prepared, Refusal> {
     let (raw, table) = settings.raw();
     let pieces = usize::try_from(count_pieces(settings, list)).map_or(0, |n| n.min(MOST_PIECES));

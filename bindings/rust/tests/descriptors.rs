@@ -1,6 +1,8 @@
-//! Descriptors and groups, worked by hand.
+//! Descriptors and groups, and what calls answer of two checksums, worked by hand.
 
-use dsa_planner::{groups_of, list_of, Descriptor, BLOCK_ON_FAULT};
+use dsa_planner::{check, explain_list, judge, plan_list, prepare, resume, warn_list, LeftOrder, Tracker};
+use dsa_planner::{groups_of, list_of, BatchPrice, Cause, Descriptor, Hazard, Settings, Slots, Span};
+use dsa_planner::{BEGINS, BLOCK_ON_FAULT, FENCED};
 
 fn words(d: Descriptor) -> [u64; 8] {
     let word = |k: usize| u64::from_be_bytes(d.0[8 * k..8 * k + 8].try_into().unwrap());
@@ -36,6 +38,36 @@ fn descriptors_have_their_fields() {
     let place = 0x3080_0000_0000_0000;
     assert_eq!(words(copied), [0x0c00_0111, record, source, target, size, 0, place, 0]);
     assert_eq!(list_of(&[moved, twice]), [moved.0, twice.0].concat());
+}
+
+/// The second goes on from the checksum in the record of the first, so it waits for that: a batch with a fence, for 17,
+/// costs less than two lone descriptors.
+#[test]
+fn a_checksum_waits_for_its_seed() {
+    let (lone, batch, fence) = (10, BatchPrice::Flat(14), 3);
+    let settings = Settings { greatest_batch: 4, greatest_transfer: 4096, lone, batch, fence, staging: 0x10000 };
+    let first = Descriptor::crc(0x1000, 64, 0, 0x8000);
+    let second = Descriptor::copy_crc(0x2000, 0x3000, 64, 0, 0x8020).seeded_from(0x8010);
+    let list = list_of(&[first, second]);
+    let planned = plan_list(&settings, &list).unwrap();
+    assert_eq!((planned.cost, &planned.marks[..]), (17, &[BEGINS, FENCED][..]));
+    let checked = check(&settings, &planned.portal, &planned.staging, &planned.certificate);
+    assert_eq!((checked, judge(&settings, &list, &[BEGINS, BEGINS])), (Ok(17), Ok(20)));
+    assert_eq!(judge(&settings, &list, &[BEGINS, 0]).unwrap_err().cause, Cause::Unfenced);
+    let reasons = explain_list(&settings, &list).unwrap();
+    let conflict = reasons[0].conflict.unwrap();
+    assert_eq!((reasons.len(), reasons[0].piece, reasons[0].more), (1, 1, 0));
+    assert_eq!((conflict.earlier, conflict.later, conflict.hazard), (0, 1, Hazard::ReadAfterWrite));
+    assert_eq!(conflict.record_of, Some(0));
+    assert!(warn_list(&settings, &list).unwrap().is_empty());
+    let mut tracker = Tracker::new(2, 4, 13, 12).unwrap();
+    let area = |at: u64| Span { first: at, len: 96 };
+    let before = tracker.submit(&settings, &first.0, area(0x10000), Slots::default()).unwrap();
+    let after = tracker.submit(&settings, &second.0, area(0x11000), Slots::default()).unwrap();
+    assert_eq!((before.slot, after.slot, after.waits.contains(0)), (0, 1, true));
+    assert_eq!(prepare(&settings, &list, &[]).unwrap_err().cause, Cause::Opcode);
+    let left = resume(&settings, &list, &[0; 64], &[], LeftOrder::AsListed);
+    assert_eq!(left.unwrap_err().cause, Cause::Opcode);
 }
 
 #[test]

@@ -5,8 +5,9 @@ use Rattle.dsa_emission.specs.declared.emission_fault.EmissionFault.TheVariants.
 use Rattle.dsa_calls.specs.declared.fault.PlanFault.{PlanFault}
 use Rattle.dsa_calls.specs.declared.fault.PlanFault.TheVariants.{Emission as InEmission, Memory as NoMemory}
 use Rattle.dsa_calls.specs.Fault.{emission_cause}
-use Rattle.dsa_plan.specs.EmissionFaults.{IsFirstEmissionFault}
+use Rattle.dsa_plan.specs.EmissionFaults.{IsFirstEmissionFaultAs}
 use Rattle.dsa_plan.specs.Settings.{Limits}
+use Rattle.dsa_operations.specs.Operations.{operation_kind}
 use Rattle.dsa_c.specs.declared.settings.RawSettings.{RawSettings}
 use Rattle.dsa_c.specs.declared.refusal.RawRefusal.{RawRefusal}
 use Rattle.dsa_c.specs.Raw.{limits_of, AreSettings, refusal_of}
@@ -23,10 +24,10 @@ cause_is (RecordBytes batch) = inr (λ e. cc, refl)
 cause_is Memory = inl refl
 
 pub refuses_emission :
-    (s : RawSettings) (table words portal staging : List ℕ) (places : ℕ) (l : Limits) (fault : EmissionFault) (cause : PlanFault) (r : RawRefusal) → l ≡ limits_of s table → AreSettings s table → IsFirstEmissionFault l portal staging fault →
+    (s : RawSettings) (table words portal staging : List ℕ) (places : ℕ) (l : Limits) (fault : EmissionFault) (cause : PlanFault) (r : RawRefusal) → l ≡ limits_of s table → AreSettings s table → IsFirstEmissionFaultAs operation_kind l portal staging fault →
     cause ≡ emission_cause fault → r ≡ refusal_of cause → RefusesGroups s table words portal staging places r
 refuses_emission s table words portal staging places l fault cause r is are first cause_of value =
     elim (cause_is fault) [
       | inl memory ↦ inr (inl (value ∙ ap refusal_of (cause_of ∙ memory), are))
-      | inr other ↦ inr (inr (inl (fault, other.0, are, subst (λ (x : Limits). IsFirstEmissionFault x portal staging fault) is first, value ∙ ap refusal_of (cause_of ∙ other.1))))
+      | inr other ↦ inr (inr (inl (fault, other.0, are, subst (λ (x : Limits). IsFirstEmissionFaultAs operation_kind x portal staging fault) is first, value ∙ ap refusal_of (cause_of ∙ other.1))))
     ]

@@ -5,30 +5,15 @@ use Rattle.dsa_plan.specs.Certificate.{Contents}
 use Rattle.dsa_plan.specs.Plan.{piece_count}
 use Rattle.dsa_calls.specs.declared.fault.PlanFault.{PlanFault}
 use Rattle.dsa_calls.specs.declared.fault.PlanFault.TheVariants.{Memory}
-use Rattle.dsa_calls.specs.Planned.{Submission}
-use Rattle.dsa_calls.specs.Fenced.{IsFencedLeast, PlansFenced}
 use Rattle.dsa_calls.specs.declared.checking.FencedFault.{FencedFault}
 use Rattle.dsa_calls.specs.declared.checking.FencedFault.TheVariants.{Call}
-use Rattle.dsa_calls.specs.FencedChecked.{ChecksFenced}
 use Rattle.dsa_operations.specs.AnyLists.{ChecksAnyList, IsLeastEmissionOfAnyList, IsLeastOfAnyList, PlansAnyList}
 use Rattle.dsa_operations.specs.Submissions.{OperationSubmission}
-use Rattle.dsa_calls.proofs.FencedChecked.{fenced_plan_is_checked}
 use Rattle.dsa_c.specs.declared.settings.RawSettings.{RawSettings}
 use Rattle.dsa_c.specs.declared.refusal.RawRefusal.{RawRefusal}
 use Rattle.dsa_c.specs.Raw.{limits_of, AreSettings, RefusesUnder, refusal_of, no_room}
 use Rattle.dsa_c.specs.Checking.{IsCheckedListCost}
-use Rattle.dsa_c.specs.Planning.{IsPlannedFor, IsPlannedList, Refuses, RefusesToPlan}
-
--- what planning answers under the settings that the numbers are
-pub planned_for : (s : RawSettings) (table list : List ℕ) (l : Limits) (p : Submission) → l ≡ limits_of s table → AreSettings s table
-    → PlansFenced list l (Ok p) → IsFencedLeast list l p → IsPlannedFor s table list p
-planned_for s table list l p is are planned least =
-    record {
-      settings = are;
-      planned = subst (λ (x : Limits). PlansFenced list x (Ok p)) is planned;
-      least = subst (λ (x : Limits). IsFencedLeast list x p) is least;
-      checks = subst (λ (x : Limits). ChecksFenced list p.portal p.staging x p.certificate (Ok p.cost)) is (fenced_plan_is_checked list l p planned);
-    }
+use Rattle.dsa_c.specs.Planning.{IsPlannedList, Refuses, RefusesToPlan}
 
 -- a call has a fault, or an allocation failed
 pub refuses : {F : Type 0} (refusal_of_fault : F → RawRefusal) (HasFault : Limits → F → Type 0) (memory : F) (s : RawSettings) (table : List ℕ) (l : Limits) (fault : F) (r : RawRefusal)
@@ -36,11 +21,6 @@ pub refuses : {F : Type 0} (refusal_of_fault : F → RawRefusal) (HasFault : Lim
     → RefusesUnder refusal_of_fault HasFault s table r
 refuses refusal_of_fault HasFault memory s table l fault r same is are (inl none) value = inr (inl (value ∙ ap refusal_of_fault none ∙ same, are))
 refuses refusal_of_fault HasFault memory s table l fault r same is are (inr refused) value = inr (inr (fault, are, subst (λ (x : Limits). HasFault x fault) is refused, value))
-
--- planning refuses
-pub refuses_list : (s : RawSettings) (table list : List ℕ) (l : Limits) (fault : PlanFault) (r : RawRefusal) → l ≡ limits_of s table → AreSettings s table
-    → (fault ≡ Memory) ⊎ PlansFenced list l (Err fault) → r ≡ refusal_of fault → RefusesToPlan s table list r
-refuses_list s table list l fault r = refuses refusal_of (λ x f. PlansFenced list x (Err f)) Memory s table l fault r refl
 
 -- what planning a list that may have checksums answers under the settings that the numbers are
 pub planned_list : (s : RawSettings) (table list : List ℕ) (l : Limits) (p : OperationSubmission) → l ≡ limits_of s table → AreSettings s table
@@ -60,7 +40,7 @@ as_many list l p (inr least) = least.least.legal.covers ∙ sym least.pieces_are
 
 -- planning it refuses
 pub refuses_any_list : (s : RawSettings) (table list : List ℕ) (l : Limits) (fault : PlanFault) (r : RawRefusal) → l ≡ limits_of s table → AreSettings s table
-    → (fault ≡ Memory) ⊎ PlansAnyList list l (Err fault) → r ≡ refusal_of fault → RefusesUnder refusal_of (λ x f. PlansAnyList list x (Err f)) s table r
+    → (fault ≡ Memory) ⊎ PlansAnyList list l (Err fault) → r ≡ refusal_of fault → RefusesToPlan s table list r
 refuses_any_list s table list l fault r = refuses refusal_of (λ x f. PlansAnyList list x (Err f)) Memory s table l fault r refl
 
 -- a buffer is too small

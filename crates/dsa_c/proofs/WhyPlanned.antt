@@ -1,37 +1,57 @@
 -- The pieces of a list that is planned, and why there is no room for what is said of its plan.
-use Rattle.std.proofs.Common.{◌≡◌, inl, inr, ℕ, ◌<◌, ◌≤◌, Bool, List, length, map, Some, slice_get, ap, subst, ◌∙◌, arith}
+use Rattle.std.proofs.Common.{◌≡◌, inl, inr, ℕ, ◌<◌, ◌≤◌, Bool, List, length, map, ap, ◌∙◌, arith}
 use Rattle.std.proofs.lemmas.List.{length-map}
-use Rattle.std.proofs.lemmas.Option.{slice_get_within}
-use Rattle.dsa_descriptor.specs.declared.descriptor.Descriptor.{Descriptor}
 use Rattle.dsa_descriptor.specs.Descriptors.{fields}
-use Rattle.dsa_descriptor.specs.Fields.{Fields}
 use Rattle.dsa_descriptor.specs.Pieces.{most_pieces}
-use Rattle.dsa_descriptor.specs.Spans.{InSpan}
-use Rattle.dsa_settings.specs.Staging.{staging_area}
+use Rattle.dsa_plan.specs.Plan.{Plan, piece_count}
 use Rattle.dsa_plan.specs.Settings.{Limits}
-use Rattle.dsa_splitter.specs.Pieces.{all_pieces}
-use Rattle.dsa_splitter.specs.Rules.{piece_total}
 use Rattle.dsa_splitter.proofs.Walks.{length_all}
-use Rattle.dsa_calls.specs.Fenced.{AreFencedPieces}
-use Rattle.dsa_resume.specs.Shared.{IsSpare}
+use Rattle.dsa_operations.specs.AnyLists.{AreAnyPieces, IsAnyPlan}
+use Rattle.dsa_operations.specs.declared.operation.Operation.{Operation}
+use Rattle.dsa_operations.specs.declared.operation.Operation.TheVariants as operation
+use Rattle.dsa_operations.proofs.AnyLists.{any_plan_is_checked, any_plan_is_least}
 use Rattle.dsa_c.specs.declared.refusal.RawRefusal.{RawRefusal}
 use Rattle.dsa_c.specs.declared.settings.RawSettings.{RawSettings}
-use Rattle.dsa_c.specs.Planning.{About, AreOfPlan, RefusesOfPlan}
+use Rattle.dsa_c.specs.Planning.{About, AreOfPlan, IsPlannedList, RefusesOfPlan}
 use Rattle.dsa_c.specs.Preparing.{refusal_at}
+use Rattle.dsa_c.specs.Raw.{AreSettings, limits_of}
+use Rattle.dsa_c.proofs.Refusing.{as_many}
 
-module _ (list : List ℕ) (l : Limits) (pieces : List Descriptor) (barriers : List Bool) (h : AreFencedPieces list l pieces barriers) where
-  -- the pieces are few
+-- the pieces are few
+few_of_list : (list : List ℕ) (l : Limits) (pieces : List Operation) (barriers : List Bool) → AreAnyPieces list l pieces barriers → length pieces ≤ most_pieces
+few_of_list list l pieces barriers (inl (of, (ds, are, is))) =
+    omega (arith, are.split.few.few, length_all (map fields are.operations) l.greatest_transfer, ap length are.pieces_are, length-map ds fields, ap length is, length-map ds operation.Descriptor)
+few_of_list list l pieces barriers (inr (none, (ready, is))) = ready.can.few
+
+module _ (list : List ℕ) (l : Limits) (pieces : List Operation) (barriers : List Bool) (plan : Plan) (h : IsAnyPlan list l pieces barriers plan) where
   pub few_pieces : length pieces ≤ most_pieces
-  few_pieces = omega (arith, h.split.few.few, length_all (map fields h.operations) l.greatest_transfer, ap length h.pieces_are, length-map pieces fields)
+  few_pieces = few_of_list list l pieces barriers h.are_pieces
 
-  -- the first byte of the staging area is in no record of theirs
-  pub staging_is_spare : IsSpare l.staging (map fields pieces)
-  staging_is_spare i f there inside =
-      let fs : List Fields = map fields h.operations in
-      let at : slice_get (all_pieces fs l.greatest_transfer) i ≡ Some f = subst (λ (ps : List Fields). slice_get ps i ≡ Some f) h.pieces_are there in
-      let some : i < length (all_pieces fs l.greatest_transfer) = slice_get_within (all_pieces fs l.greatest_transfer) i f at in
-      let in_area : InSpan (staging_area l.staging (piece_total l.greatest_transfer fs)) l.staging = (omega arith, omega (arith, some, length_all fs l.greatest_transfer)) in
-      h.split.clear i f at (l.staging, in_area, inr (inl inside))
+  -- the plan is one of as many
+  pub all_pieces : piece_count plan ≡ length pieces
+  all_pieces = ap piece_count h.plan_is ∙ as_many list l h.submission (any_plan_is_least list l h.submission h.planned) ∙ h.count
+
+-- planning the list answers it
+plan_listed : (s : RawSettings) (table list : List ℕ) (pieces : List Operation) (barriers : List Bool) (plan : Plan) → AreSettings s table → (h : IsAnyPlan list (limits_of s table) pieces barriers plan)
+    → IsPlannedList s table list h.submission
+plan_listed s table list pieces barriers plan are h = record {
+  settings = are;
+  planned = h.planned;
+  least = any_plan_is_least list (limits_of s table) h.submission h.planned;
+  checks = any_plan_is_checked list (limits_of s table) h.submission h.planned;
+}
+
+-- the items that are said of it are those of the list's plan
+pub said_of_plan : {X : Type 0} (Are : About X) (s : RawSettings) (table list : List ℕ) (pieces : List Operation) (barriers : List Bool) (plan : Plan) (items : List X) → AreSettings s table
+    → IsAnyPlan list (limits_of s table) pieces barriers plan → Are pieces barriers plan items → AreOfPlan Are s table list items
+said_of_plan Are s table list pieces barriers plan items settings h are = record {
+  pieces = pieces;
+  barriers = barriers;
+  plan = plan;
+  of_list = h;
+  planned = plan_listed s table list pieces barriers plan settings h;
+  are = are;
+}
 
 -- the array is too small
 pub refuses_room : {X : Type 0} (Are : About X) (number : ℕ) (s : RawSettings) (table list : List ℕ) (room : ℕ) (items : List X) (r : RawRefusal) (count : ℕ)

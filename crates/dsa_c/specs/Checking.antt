@@ -1,33 +1,33 @@
 -- What checking with a certificate from C promises.
-use Rattle.std.specs.Prelude.{ℕ, List, length, map, Ok, Err}
-use Rattle.dsa_descriptor.specs.declared.descriptor.Descriptor.{Descriptor}
-use Rattle.dsa_descriptor.specs.Descriptors.{fields}
-use Rattle.dsa_ranges.specs.Ranges.{ConflictAt}
+use Rattle.std.specs.Prelude.{ℕ, List, length, Ok, Err}
 use Rattle.dsa_plan.specs.Plan.{Plan}
 use Rattle.dsa_plan.specs.Settings.{tariff_of}
 use Rattle.dsa_plan.specs.Legal.{IsLeast}
-use Rattle.dsa_plan.specs.EmissionFaults.{IsEmission}
+use Rattle.dsa_plan.specs.EmissionFaults.{IsEmissionAs}
 use Rattle.dsa_plan.specs.Certificate.{Contents}
 use Rattle.dsa_calls.specs.declared.checking.FencedFault.{FencedFault}
 use Rattle.dsa_calls.specs.declared.checking.FencedFault.TheVariants.{Call, OtherPiece}
-use Rattle.dsa_calls.specs.Checked.{Checks}
+use Rattle.dsa_calls.specs.Checked.{ChecksSubmitted}
+use Rattle.dsa_operations.specs.declared.operation.Operation.{Operation}
+use Rattle.dsa_operations.specs.Operations.{OperationConflictAt, operation_kind}
 use Rattle.dsa_operations.specs.AnyLists.{ChecksAnyList, IsLeastEmissionOfAnyList}
 use Rattle.dsa_c.specs.declared.settings.RawSettings.{RawSettings}
 use Rattle.dsa_c.specs.declared.refusal.RawRefusal.{RawRefusal}
 use Rattle.dsa_c.specs.Preparing.{refusal_at}
 use Rattle.dsa_c.specs.Raw.{limits_of, AreSettings, RefusesUnder, refusal_of}
 
--- checking answers this cost, and no legal plan of the pieces that the bytes submit costs less, whoever wrote the certificate
+-- checking answers this cost, and no legal plan of the operations that the bytes submit costs less, whoever wrote the
+-- certificate
 pub record IsCheckedCost (s : RawSettings) (table portal staging : List ℕ) (c : Contents) (cost : ℕ) : Type 0 where
   pub settings : AreSettings s table
-  pub checks : Checks portal staging (limits_of s table) c (Ok cost)
+  pub checks : ChecksSubmitted operation_kind OperationConflictAt portal staging (limits_of s table) c (Ok cost)
   pub least :
-      (plan : Plan) (ds : List Descriptor) → IsEmission (limits_of s table) portal staging plan ds →
-      IsLeast (ConflictAt (map fields ds)) (limits_of s table).greatest_batch (tariff_of (limits_of s table)) (length ds) plan
+      (plan : Plan) (operations : List Operation) → IsEmissionAs operation_kind (limits_of s table) portal staging plan operations →
+      IsLeast (OperationConflictAt operations) (limits_of s table).greatest_batch (tariff_of (limits_of s table)) (length operations) plan
 
 -- why checking refuses
 abbrev pub RefusesCheck : RawSettings → List ℕ → List ℕ → List ℕ → Contents → RawRefusal → Type 0
-RefusesCheck s table portal staging c r = RefusesUnder refusal_of (λ l fault. Checks portal staging l c (Err fault)) s table r
+RefusesCheck s table portal staging c r = RefusesUnder refusal_of (λ l fault. ChecksSubmitted operation_kind OperationConflictAt portal staging l c (Err fault)) s table r
 
 -- ---- for a list
 

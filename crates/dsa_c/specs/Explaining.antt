@@ -1,6 +1,10 @@
 -- What explaining the plan of a list promises.
 use Rattle.std.specs.Prelude.{◌≡◌, ℕ, List, map}
 use Rattle.dsa_descriptor.specs.declared.descriptor.Descriptor.{Descriptor}
+use Rattle.dsa_operations.specs.declared.operation.Operation.{Operation}
+use Rattle.dsa_operations.specs.declared.operation.Operation.TheVariants as operation
+use Rattle.dsa_operations.specs.Operations as operations
+use Rattle.dsa_ranges.specs.Pieces.{writes_of}
 use Rattle.dsa_reasons.specs.declared.fences.Fence.{Fence}
 use Rattle.dsa_reasons.specs.Sentences.{fence_words}
 use Rattle.dsa_c.specs.declared.reasons.RawReason.{RawReason}
@@ -20,5 +24,11 @@ RefusesExplain s table list room r = RefusesOfPlan AreReasonsOf 94 s table list 
 -- the sentences of the reasons are those that an explanation has for the fences
 abbrev pub ReasonsSayAsExplained : Type 0
 ReasonsSayAsExplained =
-    (pieces : List Descriptor) (marks : List ℕ) (group : ℕ) (fences : List Fence) →
-    map sentence_of (raw_reasons pieces marks group fences) ≡ map (fence_words pieces) fences
+    (pieces : List Operation) (marks : List ℕ) (group : ℕ) (fences : List Fence) →
+    map sentence_of (raw_reasons pieces marks group fences) ≡ map (fence_words operations.writes_of pieces) fences
+
+-- of descriptors as operations it has the sentence that it has of descriptors
+abbrev pub DescriptorsSayAlike : Type 0
+DescriptorsSayAlike =
+    (ds : List Descriptor) (fence : Fence) →
+    fence_words operations.writes_of (map operation.Descriptor ds) fence ≡ fence_words writes_of ds fence

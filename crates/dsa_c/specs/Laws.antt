@@ -1,6 +1,10 @@
--- Marks and plans spell each other; and what planning and judging answer of a list without fences.
+-- Marks and plans spell each other; and what calls answer of lists without fences or checksums.
 use Rattle.std.specs.Prelude.{◌≡◌, ℕ, ◌<◌, true, List, [], ◌∷◌, All, length, Ok}
 use Rattle.dsa_plan.specs.Plan.{Plan, piece_count}
+use Rattle.dsa_descriptor.specs.declared.descriptor.Descriptor.{Descriptor}
+use Rattle.dsa_plan.specs.Certificate.{Contents}
+use Rattle.dsa_plan.specs.EmissionFaults.{IsEmission}
+use Rattle.dsa_calls.specs.Checked.{Checks}
 use Rattle.dsa_calls.specs.Fenced.{HasNoFences}
 use Rattle.dsa_calls.specs.Judge.{Judges}
 use Rattle.dsa_calls.specs.Laws.{IsLeastAndShown}
@@ -9,6 +13,7 @@ use Rattle.dsa_operations.specs.AnyLists.{IsOfDescriptors, counted}
 use Rattle.dsa_operations.specs.Submissions.{OperationSubmission}
 use Rattle.dsa_c.specs.declared.settings.RawSettings.{RawSettings}
 use Rattle.dsa_c.specs.Marks.{marks_of, plan_of, begins_group}
+use Rattle.dsa_c.specs.Checking.{IsCheckedCost}
 use Rattle.dsa_c.specs.Judging.{IsJudgedCost}
 use Rattle.dsa_c.specs.Planning.{IsPlannedList}
 use Rattle.dsa_c.specs.Raw.{limits_of, AreSettings}
@@ -45,5 +50,16 @@ PlannedWithoutFences = (s : RawSettings) (table list : List ℕ) (p : OperationS
 -- and judged so
 abbrev pub JudgedWithoutFences : Type 0
 JudgedWithoutFences = (s : RawSettings) (table list marks : List ℕ) (cost : ℕ) →
-    HasNoFences list → IsJudgedCost s table list marks cost →
+    HasNoFences list → IsOfDescriptors list → IsJudgedCost s table list marks cost →
     AreSettings s table × Judges list (plan_of marks) (limits_of s table) (Ok cost)
+
+-- what checking accepts as submitting descriptors is accepted, at the same cost
+abbrev pub CheckedWithoutChecksums : Type 0
+CheckedWithoutChecksums = (s : RawSettings) (table portal staging : List ℕ) (c : Contents) (cost : ℕ) →
+    AreSettings s table → Checks portal staging (limits_of s table) c (Ok cost) → IsCheckedCost s table portal staging c cost
+
+-- and of bytes that submit descriptors, checking accepts what is accepted
+abbrev pub CheckedAsDescriptors : Type 0
+CheckedAsDescriptors = (s : RawSettings) (table portal staging : List ℕ) (c : Contents) (cost : ℕ) (plan : Plan) (ds : List Descriptor) →
+    IsEmission (limits_of s table) portal staging plan ds → IsCheckedCost s table portal staging c cost →
+    AreSettings s table × Checks portal staging (limits_of s table) c (Ok cost)

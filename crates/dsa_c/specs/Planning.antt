@@ -1,12 +1,9 @@
 -- What planning into buffers promises.
 use Rattle.std.specs.Prelude.{◌≡◌, ◌⊎◌, ℕ, ◌+◌, ◌<◌, ◌≤◌, Bool, List, length, map, Ok, Err}
 use Rattle.dsa_c.specs.Marks.{marks_of}
-use Rattle.dsa_calls.specs.Fenced.{AreFencedPieces, IsFencedLeast, PlansFenced}
-use Rattle.dsa_calls.specs.FencedChecked.{ChecksFenced}
-use Rattle.dsa_calls.specs.Planned.{Submission}
-use Rattle.dsa_operations.specs.AnyLists.{ChecksAnyList, IsLeastOfAnyList, PlansAnyList}
+use Rattle.dsa_operations.specs.AnyLists.{ChecksAnyList, IsAnyPlan, IsLeastOfAnyList, PlansAnyList}
 use Rattle.dsa_operations.specs.Submissions.{OperationSubmission}
-use Rattle.dsa_descriptor.specs.declared.descriptor.Descriptor.{Descriptor}
+use Rattle.dsa_operations.specs.declared.operation.Operation.{Operation}
 use Rattle.dsa_plan.specs.Plan.{Plan}
 use Rattle.dsa_c.specs.declared.settings.RawSettings.{RawSettings}
 use Rattle.dsa_c.specs.declared.refusal.RawRefusal.{RawRefusal}
@@ -16,20 +13,9 @@ use Rattle.dsa_c.specs.Raw.{limits_of, AreSettings, RefusesUnder, written, refus
 use Rattle.dsa_c.specs.Certificates.{raw_pair_of}
 use Rattle.dsa_c.specs.Preparing.{refusal_at}
 
--- this is what planning a list of descriptors answers, whose fences are barriers: the plan is legal with them, no such plan
--- costs less, the certificate is good for its cost, and checking the bytes that submit it for the list, with the
--- certificate, answers the cost
-pub record IsPlannedFor (s : RawSettings) (table list : List ℕ) (p : Submission) : Type 0 where
-  pub settings : AreSettings s table
-  pub planned : PlansFenced list (limits_of s table) (Ok p)
-  pub least : IsFencedLeast list (limits_of s table) p
-  pub checks : ChecksFenced list p.portal p.staging (limits_of s table) p.certificate (Ok p.cost)
-
--- why a list of descriptors is not planned
+-- why a list is not planned
 abbrev pub RefusesToPlan : RawSettings → List ℕ → List ℕ → RawRefusal → Type 0
-RefusesToPlan s table list r = RefusesUnder refusal_of (λ l fault. PlansFenced list l (Err fault)) s table r
-
--- ---- lists that may have checksums
+RefusesToPlan s table list r = RefusesUnder refusal_of (λ l fault. PlansAnyList list l (Err fault)) s table r
 
 -- this is what planning the bytes answers, whose fences are barriers: the plan is legal with them, no such plan costs less,
 -- the certificate is good for its cost, and checking the bytes that submit it for the list, with the certificate, answers
@@ -60,7 +46,7 @@ pub record IsWritten (s : RawSettings) (table list portal new_portal staging new
 -- why nothing is written: the list is not planned; or the bytes of what it answers don't fit, and this is what they need
 abbrev pub Refuses : RawSettings → List ℕ → List ℕ → ℕ → ℕ → RawRefusal → Type 0
 Refuses s table list portal staging r =
-    RefusesUnder refusal_of (λ l fault. PlansAnyList list l (Err fault)) s table r
+    RefusesToPlan s table list r
     ⊎ ((p : OperationSubmission) × IsPlannedList s table list p × (¬ FitsIn p portal staging) × (r ≡ no_room (length p.portal) (length p.staging)))
 
 -- the certificate and the marks of the pieces fit in arrays of these lengths: n + 1 prices, n pairs and n marks of n pieces
@@ -90,20 +76,18 @@ RefusesCertified s table list portal staging prices pairs marks r =
 
 -- ---- what is said of a plan, item by item, into an array
 
--- this is what planning the bytes answers, and the barriers of its pieces
-abbrev pub IsPlannedWith : RawSettings → List ℕ → List ℕ → Submission → List Bool → Type 0
-IsPlannedWith s table list p barriers = IsPlannedFor s table list p × AreFencedPieces list (limits_of s table) p.pieces barriers
-
 -- what is said of pieces, their barriers and their plan, item by item
 abbrev pub About : Type 0 → Type 1
-About X = List Descriptor → List Bool → Plan → List X → Type 0
+About X = List Operation → List Bool → Plan → List X → Type 0
 
--- the items are those of the plan that planning the list answers, with its pieces and their barriers
+-- the items are those of the plan that planning the list answers, with its pieces, all as operations, and their barriers
 pub record AreOfPlan {X : Type 0} (Are : About X) (s : RawSettings) (table list : List ℕ) (items : List X) : Type 0 where
-  pub submission : Submission
+  pub pieces : List Operation
   pub barriers : List Bool
-  pub planned : IsPlannedWith s table list submission barriers
-  pub are : Are submission.pieces barriers submission.plan items
+  pub plan : Plan
+  pub of_list : IsAnyPlan list (limits_of s table) pieces barriers plan
+  pub planned : IsPlannedList s table list of_list.submission
+  pub are : Are pieces barriers plan items
 
 -- they are at the front of the array, whose rest is unchanged, and there are so many
 pub record AreOfPlanInto {X : Type 0} (Are : About X) (s : RawSettings) (table list : List ℕ) (array new_array : List X) (count : ℕ) : Type 0 where

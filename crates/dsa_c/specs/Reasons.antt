@@ -1,9 +1,9 @@
 -- Why a plan has its fences and its groups, as C lays it out (this project's choice).
-use Rattle.std.specs.Prelude.{ℕ, ◌≡◌, ◌+◌, ◌%◌, ◌==◌, not, Bool, List, [], ◌∷◌, map, slice_index_or, Option, Some, None, if◌then◌else◌}
-use Rattle.dsa_descriptor.specs.declared.descriptor.Descriptor.{Descriptor}
-use Rattle.dsa_descriptor.specs.Descriptors.{fields}
+use Rattle.std.specs.Prelude.{ℕ, ◌≡◌, ◌+◌, ◌%◌, ◌==◌, not, Bool, List, [], ◌∷◌, slice_index_or, Option, Some, None, if◌then◌else◌}
+use Rattle.dsa_operations.specs.declared.operation.Operation.{Operation}
 use Rattle.dsa_ranges.specs.declared.hazards.HazardKind.{HazardKind}
 use Rattle.dsa_ranges.specs.declared.hazards.HazardKind.TheVariants.{ReadAfterWrite, WriteAfterRead, WriteAfterWrite}
+use Rattle.dsa_operations.specs.Operations.{reads_of, writes_of}
 use Rattle.dsa_plan.specs.Plan.{Plan}
 use Rattle.dsa_reasons.specs.declared.fences.Fence.{Fence}
 use Rattle.dsa_reasons.specs.declared.sentences.NamedConflict.{NamedConflict}
@@ -73,11 +73,11 @@ bare_reason group mark fence =
     }
 
 -- the same with the first of the conflicts that it alone separates, if there is one
-abbrev pub raw_reason_of : List Descriptor → ℕ → ℕ → Fence → RawReason
-raw_reason_of pieces group mark fence = with_conflict (bare_reason group mark fence) (first_conflict pieces fence.named.items)
+abbrev pub raw_reason_of : List Operation → ℕ → ℕ → Fence → RawReason
+raw_reason_of pieces group mark fence = with_conflict (bare_reason group mark fence) (first_conflict writes_of pieces fence.named.items)
 
 -- the reasons of these fences: the number of the group is one more at each piece that begins one
-abbrev pub raw_reasons : List Descriptor → List ℕ → ℕ → List Fence → List RawReason
+abbrev pub raw_reasons : List Operation → List ℕ → ℕ → List Fence → List RawReason
 raw_reasons pieces marks group [] = []
 raw_reasons pieces marks group (fence ∷ fences) =
     raw_reason_of pieces (group + slice_index_or marks fence.piece 0 % 2) (slice_index_or marks fence.piece 0) fence
@@ -85,9 +85,9 @@ raw_reasons pieces marks group (fence ∷ fences) =
 
 -- the reasons of a plan of pieces and their barriers: one for each fenced piece, and one for each that a group after the
 -- first begins with
-pub record AreReasonsOf (pieces : List Descriptor) (barriers : List Bool) (plan : Plan) (reasons : List RawReason) : Type 0 where
+pub record AreReasonsOf (pieces : List Operation) (barriers : List Bool) (plan : Plan) (reasons : List RawReason) : Type 0 where
   pub fences : List Fence
-  pub cuts : AreCutReasons (map fields pieces) barriers plan fences
+  pub cuts : AreCutReasons reads_of writes_of pieces barriers plan fences
   pub reasons_are : reasons ≡ raw_reasons pieces (marks_of plan) 0 fences
 
 -- the sentence of a reason

@@ -1,12 +1,11 @@
 -- What the calls of a tracker in an array of words promise.
-use Rattle.std.specs.Prelude.{◌≡◌, ◌≢◌, ◌⊎◌, ℕ, ◌≤◌, ◌==◌, Bool, List, length, map, min, nat_lt, slice_get, slice_index_or, if◌then◌else◌}
+use Rattle.std.specs.Prelude.{◌≡◌, ◌≢◌, ◌⊎◌, ℕ, ◌≤◌, ◌==◌, Bool, List, flat_map, length, min, nat_lt, slice_get, slice_index_or, if◌then◌else◌}
 use Rattle.dsa_descriptor.specs.declared.descriptor.Descriptor.{Descriptor}
 use Rattle.dsa_descriptor.specs.declared.span.Span.{Span}
 use Rattle.dsa_descriptor.specs.Causes.{index_list}
-use Rattle.dsa_descriptor.specs.Descriptors.{fields}
-use Rattle.dsa_descriptor.specs.Fields.{Fields}
-use Rattle.dsa_flight.specs.Spans.{all_reads, staged_writes}
-use Rattle.dsa_plan.specs.EmissionFaults.{IsEmission, IsFirstEmissionFault}
+use Rattle.dsa_flight.specs.Spans.{staged_writes}
+use Rattle.dsa_ranges.specs.Pieces as kinds
+use Rattle.dsa_plan.specs.EmissionFaults.{IsEmissionAs, IsFirstEmissionFaultAs}
 use Rattle.dsa_plan.specs.Plan.{Plan}
 use Rattle.dsa_emission.specs.declared.emission_fault.EmissionFault.{EmissionFault}
 use Rattle.dsa_emission.specs.declared.emission_fault.EmissionFault.TheVariants.{Memory as EmissionMemory}
@@ -18,6 +17,13 @@ use Rattle.dsa_tracker.specs.declared.slots.Slots.{Slots}
 use Rattle.dsa_tracker.specs.declared.submitted.Retired.{Retired}
 use Rattle.dsa_tracker.specs.declared.submitted.Submitted.{Submitted}
 use Rattle.dsa_tracker.specs.Calls.{CanKeep, CanKeepList, IsCompleteFault, IsListFault, IsRefused, IsSpanFault, IsWithdrawFault, Retires, Submits, owner_with}
+use Rattle.dsa_tracker.specs.Calls as trackers
+use Rattle.dsa_tracker.specs.declared.owner.Owner.{Owner}
+use Rattle.dsa_operations.specs.declared.operation.Operation.{Operation}
+use Rattle.dsa_operations.specs.AnyLists.{ArePiecesOfList, OfAnyList}
+use Rattle.dsa_operations.specs.Operations as operations
+use Rattle.dsa_operations.specs.Submissions.{AreReady}
+use Rattle.dsa_operations.specs.declared.pieces.AnyPieces.{AnyPieces}
 use Rattle.dsa_tracker.specs.Causes.{words_indices, words_number}
 use Rattle.dsa_tracker.specs.Groups.{CanTakeGroups, IsGroupsFault, SubmitsInTurn, free_count, group_reads, group_writes}
 use Rattle.dsa_tracker.specs.Table.{ConflictsWith, IsExactly, IsHeld, IsReady, WaitsFor}
@@ -73,40 +79,46 @@ TakesSpans words reads writes also submitted new =
     × (IsTracker words → IsTracker new × Submits (table_in words) reads writes also (owner_in words) submitted (table_in new))
 
 -- under these settings, these are the pieces of the operations that the bytes spell, without their fences
-pub record ArePiecesUnder (s : RawSettings) (table list : List ℕ) (pieces : List Descriptor) (barriers : List Bool) : Type 0 where
-  pub settings : AreSettings s table
-  pub pieces_are : AreFencedPieces list (limits_of s table) pieces barriers
+abbrev pub ArePiecesUnder : RawSettings → List ℕ → List ℕ → AnyPieces → Type 0
+ArePiecesUnder s table list pieces = AreSettings s table × ArePiecesOfList list (limits_of s table) pieces
 
--- a submission of these pieces is taken
-abbrev pub TakesPieces : List ℕ → List Fields → Span → Slots → Submitted → List ℕ → Type 0
-TakesPieces words pieces staging also submitted new =
-    IsShapedIn words × IsShapedIn new × CanKeepList (room_in words) (owner_with (owner_in words) pieces) pieces staging
+-- a submission of pieces of a kind is taken; the functions say whose each piece is, and what it reads and writes
+abbrev pub TakesPieces : {P : Type 0} → (P → Owner) → (P → List Span) → (P → List Span) → List ℕ → List P → Span → Slots → Submitted → List ℕ → Type 0
+TakesPieces owner reads writes words pieces staging also submitted new =
+    IsShapedIn words × IsShapedIn new × CanKeepList owner (room_in words) (owner_with owner (owner_in words) pieces) pieces staging
     × (IsTracker words →
-    IsTracker new × Submits (table_in words) (all_reads pieces) (staged_writes staging pieces) also (owner_with (owner_in words) pieces) submitted (table_in new))
+    IsTracker new
+    × Submits (table_in words) (flat_map reads pieces) (staged_writes writes staging pieces) also (owner_with owner (owner_in words) pieces)
+    submitted (table_in new))
 
 -- A submission of the pieces of the operations that these bytes spell, without their fences, is taken. They are split as
 -- planning splits them under the settings with the address of the staging area that is given here.
 abbrev pub TakesList : RawSettings → List ℕ → List ℕ → List ℕ → Span → Slots → Submitted → List ℕ → Type 0
 TakesList s table words list staging also submitted new =
-    (pieces : List Descriptor) × (barriers : List Bool) × ArePiecesUnder (staged_at s staging.first) table list pieces barriers
-    × TakesPieces words (map fields pieces) staging also submitted new
+    AreSettings (staged_at s staging.first) table × OfAnyList list
+    ((pieces : List Descriptor) × (barriers : List Bool) × AreFencedPieces list (limits_of (staged_at s staging.first) table) pieces barriers
+    × TakesPieces trackers.owner_of kinds.reads_of kinds.writes_of words pieces staging also submitted new)
+    ((pieces : List Operation) × AreReady list (limits_of (staged_at s staging.first) table) pieces
+    × TakesPieces operations.owner_of operations.reads_of operations.writes_of words pieces staging also submitted new)
 
 -- the groups of a plan of these pieces are taken one after another, and each gets the slot at its number; the other places
 -- of the array stay
-abbrev pub TakesPlan : List ℕ → List Fields → Plan → ℕ → Slots → List ℕ → List ℕ → List ℕ → Type 0
+abbrev pub TakesPlan : List ℕ → List Operation → Plan → ℕ → Slots → List ℕ → List ℕ → List ℕ → Type 0
 TakesPlan words pieces plan staging also places slots new =
     IsShapedIn words × IsShapedIn new
-    × CanTakeGroups (room_in words) (min (free_count (shown_in words)) (length places)) (owner_with (owner_in words) pieces) pieces plan staging
+    × CanTakeGroups operations.owner_of (room_in words) (min (free_count (shown_in words)) (length places)) (owner_with operations.owner_of (owner_in words) pieces) pieces plan
+    staging
     × (IsTracker words →
     IsTracker new
-    × SubmitsInTurn (table_in words) (group_reads plan pieces) (group_writes staging plan pieces) also (owner_with (owner_in words) pieces) slots (length plan) (table_in new))
+    × SubmitsInTurn (table_in words) (group_reads operations.reads_of plan pieces) (group_writes operations.writes_of staging plan pieces) also
+    (owner_with operations.owner_of (owner_in words) pieces) slots (length plan) (table_in new))
     × ((k : ℕ) → length plan ≤ k → slice_get slots k ≡ slice_get places k)
 
 -- the groups of the plan that these bytes submit are taken
 abbrev pub TakesGroups : RawSettings → List ℕ → List ℕ → List ℕ → List ℕ → Slots → List ℕ → List ℕ → List ℕ → Type 0
 TakesGroups s table words portal staging also places slots new =
-    (plan : Plan) × (list : List Descriptor) × AreSettings s table × IsEmission (limits_of s table) portal staging plan list
-    × TakesPlan words (map fields list) plan s.staging also places slots new
+    (plan : Plan) × (list : List Operation) × AreSettings s table × IsEmissionAs operations.operation_kind (limits_of s table) portal staging plan list
+    × TakesPlan words list plan s.staging also places slots new
 
 -- the submission of a slot is taken off; it was ready
 abbrev pub Completes : List ℕ → ℕ → Retired → List ℕ → Type 0
@@ -136,21 +148,26 @@ RefusesSpans words reads writes r =
     (fault : WordsFault) × RefusesIn words fault (λ f. IsRefused (table_in words) f (IsSpanFault (room_in words) reads writes f)) × (r ≡ track_refusal_of fault)
 
 -- the tracker refuses these pieces
-abbrev pub RefusesPieces : List ℕ → List Fields → Span → WordsFault → Type 0
-RefusesPieces words pieces staging fault =
-    RefusesIn words fault (λ f. IsRefused (table_in words) f (IsListFault (room_in words) (owner_with (owner_in words) pieces) pieces staging f))
+abbrev pub RefusesAsTracked : {P : Type 0} → (P → Owner) → List ℕ → List P → Span → RawRefusal → Type 0
+RefusesAsTracked owner words pieces staging r =
+    (fault : WordsFault) × (r ≡ track_refusal_of fault)
+    × RefusesIn words fault (λ f. IsRefused (table_in words) f (IsListFault owner (room_in words) (owner_with owner (owner_in words) pieces) pieces staging f))
 
 -- planning refuses the list, so it has no pieces, or the tracker refuses them
 abbrev pub RefusesList : RawSettings → List ℕ → List ℕ → List ℕ → Span → RawRefusal → Type 0
 RefusesList s table words list staging r =
     RefusesToPlan (staged_at s staging.first) table list r
-    ⊎ ((pieces : List Descriptor) × (barriers : List Bool) × (fault : WordsFault) × ArePiecesUnder (staged_at s staging.first) table list pieces barriers
-    × RefusesPieces words (map fields pieces) staging fault × (r ≡ track_refusal_of fault))
+    ⊎ (AreSettings (staged_at s staging.first) table × OfAnyList list
+    ((pieces : List Descriptor) × (barriers : List Bool) × AreFencedPieces list (limits_of (staged_at s staging.first) table) pieces barriers
+    × RefusesAsTracked trackers.owner_of words pieces staging r)
+    ((pieces : List Operation) × AreReady list (limits_of (staged_at s staging.first) table) pieces
+    × RefusesAsTracked operations.owner_of words pieces staging r))
 
 -- the tracker refuses the groups of a plan of these pieces
-abbrev pub RefusesPlan : List ℕ → List Fields → Plan → ℕ → ℕ → WordsFault → Type 0
+abbrev pub RefusesPlan : List ℕ → List Operation → Plan → ℕ → ℕ → WordsFault → Type 0
 RefusesPlan words pieces plan staging places fault =
-    RefusesIn words fault (IsGroupsFault (room_in words) (min (free_count (shown_in words)) places) (owner_with (owner_in words) pieces) pieces plan staging)
+    RefusesIn words fault
+    (IsGroupsFault operations.owner_of (room_in words) (min (free_count (shown_in words)) places) (owner_with operations.owner_of (owner_in words) pieces) pieces plan staging)
 
 -- the numbers are no settings, an allocation failed, the bytes are no emission, with their first fault, or the tracker
 -- refuses the groups that they submit
@@ -158,10 +175,10 @@ abbrev pub RefusesGroups : RawSettings → List ℕ → List ℕ → List ℕ �
 RefusesGroups s table words portal staging places r =
     RefusesSettings s table r
     ⊎ ((r ≡ refusal_of Memory) × AreSettings s table)
-    ⊎ ((fault : EmissionFault) × (fault ≢ EmissionMemory) × AreSettings s table × IsFirstEmissionFault (limits_of s table) portal staging fault
+    ⊎ ((fault : EmissionFault) × (fault ≢ EmissionMemory) × AreSettings s table × IsFirstEmissionFaultAs operations.operation_kind (limits_of s table) portal staging fault
     × (r ≡ refusal_of (InEmission fault)))
-    ⊎ ((plan : Plan) × (list : List Descriptor) × (fault : WordsFault) × AreSettings s table × IsEmission (limits_of s table) portal staging plan list
-    × RefusesPlan words (map fields list) plan s.staging places fault × (r ≡ track_refusal_of fault))
+    ⊎ ((plan : Plan) × (list : List Operation) × (fault : WordsFault) × AreSettings s table
+    × IsEmissionAs operations.operation_kind (limits_of s table) portal staging plan list × RefusesPlan words list plan s.staging places fault × (r ≡ track_refusal_of fault))
 
 -- the words do not have the form of a tracker
 abbrev pub RefusesAsk : List ℕ → RawRefusal → Type 0

@@ -1,10 +1,12 @@
 -- What is worth a warning about the plan of a list, as C lays it out (this project's choice).
 use Rattle.std.specs.Prelude.{◌≡◌, ℕ, ◌==◌, Bool, List, [], map, Option, Some, None, if◌then◌else◌}
-use Rattle.dsa_descriptor.specs.declared.descriptor.Descriptor.{Descriptor}
+use Rattle.dsa_operations.specs.declared.operation.Operation.{Operation}
+use Rattle.dsa_operations.specs.Operations.{writes_of}
 use Rattle.dsa_plan.specs.Plan.{Plan}
 use Rattle.dsa_warnings.specs.declared.concerns.Concern.{Concern}
 use Rattle.dsa_warnings.specs.declared.concerns.Concern.TheVariants.{Overlap, SharedRecord, Unchecked, Unguarded}
 use Rattle.dsa_warnings.specs.declared.warnings.Warning.{Warning}
+use Rattle.dsa_warnings.specs.Concerned.{descriptor_of}
 use Rattle.dsa_warnings.specs.Sentences.{warning_words}
 use Rattle.dsa_warnings.specs.Warnings.{AreWarnings}
 use Rattle.dsa_c.specs.declared.refusal.RawRefusal.{RawRefusal}
@@ -43,9 +45,9 @@ abbrev pub warning_words_of : RawWarning → List ℕ
 warning_words_of r = words_with r.piece (concern_in r)
 
 -- the warnings of a plan of pieces and their barriers
-pub record AreRawWarningsOf (pieces : List Descriptor) (barriers : List Bool) (plan : Plan) (raw : List RawWarning) : Type 0 where
+pub record AreRawWarningsOf (pieces : List Operation) (barriers : List Bool) (plan : Plan) (raw : List RawWarning) : Type 0 where
   pub warnings : List Warning
-  pub are : AreWarnings pieces barriers plan warnings
+  pub are : AreWarnings writes_of descriptor_of pieces barriers plan warnings
   pub raw_are : raw ≡ map raw_warning_of warnings
 
 -- those of the plan that planning the list answers are at the front of the array, and there are so many

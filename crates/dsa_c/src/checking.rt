@@ -7,8 +7,8 @@ ghost use Rattle.dsa_c.specs.Checking.{IsCheckedCost, IsCheckedListCost, Refuses
 use crate::certificate::{RawPair, certificate_of};
 use crate::refusal::{RawRefusal, refusal, refusal_at};
 use crate::settings::{RawSettings, settings_of, settings_refusal};
-use dsa_calls::{FencedFault, PlanFault, check_bytes};
-use dsa_operations::check_any_list;
+use dsa_calls::{FencedFault, PlanFault, check_submitted};
+use dsa_operations::{Operation, check_any_list};
 use std::alloc::Global;
 
 /// The number of the refusal of a piece that is not the list's.
@@ -43,15 +43,15 @@ fn check_for(
     let Ok(certificate) = certificate_of(alloc, given.version, given.prices, given.pairs) else {
         return Err(refusal(PlanFault::Memory));
     };
-    match check_bytes(alloc, portal, staging, &checked, &certificate) {
+    match check_submitted::<Operation>(alloc, portal, staging, &checked, &certificate) {
         Ok(cost) => Ok(cost),
         Err(fault) => Err(refusal(fault)),
     }
 }
 
-/// Checks the bytes of a portal and a staging area with a certificate of this version, and writes the cost of their
-/// plan to `cost` if no legal plan of their pieces costs less. It returns 0 then; else it returns the number of the
-/// refusal, and has written only `refusal`.
+/// Checks the bytes of a portal and a staging area, which may submit checksums, with a certificate of this version, and
+/// writes the cost of their plan to `cost` if no legal plan of their pieces costs less. It returns 0 then; else it
+/// returns the number of the refusal, and has written only `refusal`.
 #[unsafe(no_mangle)]
 pub extern "C" fn dsa_check(
     alloc: Global,

@@ -13,7 +13,8 @@ use crate::planning::planned_for;
 use crate::reasons::{RawReason, raw_reasons};
 use crate::refusal::{RawRefusal, refusal, refusal_at};
 use crate::settings::RawSettings;
-use dsa_calls::{PlanFault, Planned};
+use dsa_calls::PlanFault;
+use dsa_operations::AnyPlanned;
 use dsa_reasons::cut_reasons;
 use std::alloc::{AllocError, Global};
 
@@ -21,15 +22,16 @@ use std::alloc::{AllocError, Global};
 pub const NO_ROOM_FOR_REASONS: u32 = 94;
 
 /// Why what is planned has its fences and its groups.
-fn reasons_of(alloc: Global, planned: &Planned) -> Result<Vec<RawReason>, AllocError>
-    requires all { piece_count planned.now.plan ≡ length planned.now.pieces.items }
-    requires few { length planned.now.pieces.items ≤ most_pieces }
-    ensures { IfOk result (λ reasons. AreReasonsOf planned.now.pieces.items
+fn reasons_of(alloc: Global, planned: &AnyPlanned) -> Result<Vec<RawReason>, AllocError>
+    requires all { piece_count planned.now.plan ≡ length planned.now.operations.items }
+    requires few { length planned.now.operations.items ≤ most_pieces }
+    ensures { IfOk result (λ reasons. AreReasonsOf planned.now.operations.items
         planned.now.barriers.items planned.now.plan reasons.items) }
 {
-    let fences = cut_reasons(alloc, &planned.plan, &planned.pieces, &planned.barriers)?;
-    let marks = marks_of(alloc, &planned.plan)?;
-    raw_reasons(alloc, &planned.pieces, &marks, &fences)
+    let (plan, operations) = (&planned.plan, planned.operations.as_slice());
+    let fences = cut_reasons(alloc, plan, operations, &planned.barriers)?;
+    let marks = marks_of(alloc, plan)?;
+    raw_reasons(alloc, operations, &marks, &fences)
 }
 
 /// The reasons of the plan of a list, if it is planned and they fit.

@@ -6,7 +6,8 @@ ghost use Rattle.dsa_c.specs.Judging.{IsJudgedCost, RefusesJudge};
 use crate::marks::plan_of;
 use crate::refusal::{RawRefusal, refusal};
 use crate::settings::{RawSettings, settings_of, settings_refusal};
-use dsa_calls::{PlanFault, judge_fenced_list};
+use dsa_calls::PlanFault;
+use dsa_operations::judge_any_list;
 use std::alloc::Global;
 
 /// The cost of the plan that the marks spell.
@@ -27,15 +28,15 @@ fn judge_for(
     let Ok(plan) = plan_of(alloc, marks) else {
         return Err(refusal(PlanFault::Memory));
     };
-    match judge_fenced_list(alloc, list, &plan, &checked) {
+    match judge_any_list(alloc, list, &plan, &checked) {
         Ok(cost) => Ok(cost),
         Err(fault) => Err(refusal(fault)),
     }
 }
 
-/// Judges the plan that the marks spell, one for each descriptor of the list, none of which is split, and writes what
-/// it costs to `cost` if it may be submitted. The fences of the list are barriers, which the plan has to keep. It
-/// returns 0 then; else it returns the number of the refusal, and has written only `refusal`.
+/// Judges the plan that the marks spell, one for each operation of the list, checksums too, none of which is split, and
+/// writes what it costs to `cost` if it may be submitted. The fences of the list are barriers, which the plan has to
+/// keep. It returns 0 then; else it returns the number of the refusal, and has written only `refusal`.
 #[unsafe(no_mangle)]
 pub extern "C" fn dsa_judge(
     alloc: Global,

@@ -1,7 +1,7 @@
-//! Laws of marks, and of lists without fences.
+//! Laws of marks, and of lists without fences or checksums.
 
-ghost use Rattle.dsa_c.specs.Explaining.{ReasonsSayAsExplained};
-ghost use Rattle.dsa_c.specs.Laws.{JudgedWithoutFences, MarksSpellPlans, PlannedWithoutFences, PlansSpellMarks};
+ghost use Rattle.dsa_c.specs.Explaining.{DescriptorsSayAlike, ReasonsSayAsExplained};
+ghost use Rattle.dsa_c.specs.Laws.{CheckedAsDescriptors, CheckedWithoutChecksums, JudgedWithoutFences, MarksSpellPlans, PlannedWithoutFences, PlansSpellMarks};
 
 /// A plan whose groups are not empty is the plan that its marks spell, and it has as many marks as pieces. This is a
 /// law: the body is empty, and the clause is what the proof shows.
@@ -26,9 +26,17 @@ pub fn judged_without_fences()
     ensures { JudgedWithoutFences }
 {}
 
+/// What [`check_bytes`](dsa_calls::check_bytes()) accepts, [`dsa_check`](crate::dsa_check()) accepts too, at the same
+/// cost; and if bytes submit descriptors, the other way. This is a law too.
+pub fn checked_without_checksums()
+    ensures there { CheckedWithoutChecksums }
+    ensures back { CheckedAsDescriptors }
+{}
+
 /// The sentence that [`dsa_reason_text`](crate::dsa_reason_text()) writes of a reason of
-/// [`dsa_explain_list`](crate::dsa_explain_list()) is the one that an explanation has for that fence. This is a law
-/// too.
+/// [`dsa_explain_list`](crate::dsa_explain_list()) is the one that an explanation has for that fence, of descriptors as
+/// of operations. This is a law too.
 pub fn reasons_say_as_explained()
-    ensures { ReasonsSayAsExplained }
+    ensures operations { ReasonsSayAsExplained }
+    ensures descriptors { DescriptorsSayAlike }
 {}

@@ -30,8 +30,8 @@ pub use explaining::dsa_explain_list;
 pub use filling::dsa_fill;
 pub use judging::dsa_judge;
 pub use laws::{
-    judged_without_fences, marks_spell_plans, planned_without_fences, plans_spell_marks,
-    reasons_say_as_explained,
+    checked_without_checksums, judged_without_fences, marks_spell_plans, planned_without_fences,
+    plans_spell_marks, reasons_say_as_explained,
 };
 pub use planning::{RawPlanned, dsa_plan_list};
 pub use preparing::{RawInfo, dsa_prepare};

@@ -1,17 +1,16 @@
 //! Planning a list into buffers of the caller.
 
 ghost use Rattle.std.specs.Prelude.{◌≡◌, ◌≢◌, ℕ, ◌<◌, List, length, MatchResult};
-ghost use Rattle.dsa_calls.specs.Planned.{submission_of};
+ghost use Rattle.dsa_operations.specs.AnyLists.{IsAnyPlan};
 ghost use Rattle.dsa_c.specs.declared.settings.RawSettings.{RawSettings};
 ghost use Rattle.dsa_c.specs.Raw.{AreSettings, limits_of};
 ghost use Rattle.dsa_operations.specs.Submissions.{operation_submission_of};
-ghost use Rattle.dsa_c.specs.Planning.{IsPlannedList, IsPlannedWith, FitsIn, IsWritten, Refuses, RefusesToPlan, summary_of};
+ghost use Rattle.dsa_c.specs.Planning.{IsPlannedList, FitsIn, IsWritten, Refuses, RefusesToPlan, summary_of};
 
 use crate::buffer::put;
 use crate::refusal::{RawRefusal, no_room, refusal};
 use crate::settings::{RawSettings, by_size, same_price, settings_of, settings_refusal};
-use dsa_calls::{Planned, plan_fenced_list};
-use dsa_operations::{PlannedOperations, plan_any_list};
+use dsa_operations::{AnyPlanned, PlannedOperations, plan_any_list, plan_any_pieces};
 use dsa_plan::Settings;
 use std::alloc::Global;
 
@@ -41,22 +40,23 @@ pub(crate) fn summary(planned: &PlannedOperations) -> RawPlanned
     }
 }
 
-/// The planned list of descriptors with the barriers of its pieces, however many bytes it has.
+/// The pieces of the list and their plan, however many bytes it has.
 #[inline(always)]
 pub(crate) fn planned_for(
     alloc: Global,
     settings: &RawSettings,
     table: &[u64],
     list: &[u8],
-) -> Result<Planned, RawRefusal>
+) -> Result<AnyPlanned, RawRefusal>
     ensures { let s = settings.now in let t = table.now in MatchResult result
-        (λ p. IsPlannedWith s t list.now (submission_of p) p.barriers.items)
+        (λ p. AreSettings s t × IsAnyPlan list.now (limits_of s t)
+        p.operations.items p.barriers.items p.plan)
         (λ r. (0 < r.number) × RefusesToPlan s t list.now r) }
 {
     let Some(checked) = settings_of(settings, table) else {
         return Err(settings_refusal(settings));
     };
-    match plan_fenced_list(alloc, list, &checked) {
+    match plan_any_pieces(alloc, list, &checked) {
         Ok(planned) => Ok(planned),
         Err(fault) => Err(refusal(fault)),
     }

@@ -5,7 +5,7 @@ ghost use Rattle.dsa_c.specs.Raw.{written};
 ghost use Rattle.dsa_c.specs.Reasons.{conflict_in, hazard_number, kind_in, raw_reason_of, raw_reasons, record_in, record_number, sentence_of, with_conflict};
 
 use crate::texts::put_front;
-use dsa_descriptor::Descriptor;
+use dsa_operations::Operation;
 use dsa_ranges::{Hazard, HazardKind};
 use dsa_reasons::{Fence, NamedConflict, Reason, first_conflict, sentence_text};
 use std::alloc::{AllocError, Global};
@@ -130,7 +130,7 @@ fn with_conflict(raw: RawReason, conflict: Option<NamedConflict>) -> RawReason
 }
 
 /// What a fence says of a piece of this mark in this group.
-fn raw_reason(pieces: &[Descriptor], group: u64, mark: u8, fence: &Fence) -> RawReason
+fn raw_reason(pieces: &[Operation], group: u64, mark: u8, fence: &Fence) -> RawReason
     ensures { result ≡ raw_reason_of pieces.now group mark fence.now }
 {
     let bare = RawReason {
@@ -158,7 +158,7 @@ fn mark_at(marks: &[u8], piece: usize) -> u8
 /// What the fences say of pieces with these marks, as C lays it out. Groups are counted from 0 on.
 pub(crate) fn raw_reasons(
     alloc: Global,
-    pieces: &[Descriptor],
+    pieces: &[Operation],
     marks: &[u8],
     fences: &[Fence],
 ) -> Result<Vec<RawReason>, AllocError>

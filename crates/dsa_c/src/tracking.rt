@@ -1,17 +1,18 @@
 //! Submissions handed to a tracker in the caller's words.
 
-ghost use Rattle.std.specs.Prelude.{◌≡◌, ◌≢◌, ◌<◌, Bool, List, None, MatchResult, length, map, replicate};
+ghost use Rattle.std.specs.Prelude.{◌≡◌, ◌≢◌, ◌<◌, None, MatchResult, length, map, replicate};
 ghost use Rattle.dsa_descriptor.specs.Spans.{span};
 ghost use Rattle.dsa_tracker.specs.Words.{IsTracker, table_in};
 ghost use Rattle.dsa_c.specs.Planning.{RefusesToPlan};
-ghost use Rattle.dsa_c.specs.Tracking.{ArePiecesUnder, CanBegin, RefusesGroups, RefusesList, RefusesSpans, TakesGroups, TakesList, TakesSpans, begin_refusal, measure_at_fault, slots_of, submitted_of, track_refusal_of};
+ghost use Rattle.dsa_c.specs.Tracking.{ArePiecesUnder, CanBegin, RefusesAsTracked, RefusesGroups, RefusesList, RefusesSpans, TakesGroups, TakesList, TakesPieces, TakesSpans, begin_refusal, measure_at_fault, slots_of, submitted_of, track_refusal_of};
 
 use crate::refusal::{RawRefusal, first_two, refusal, refusal_at};
 use crate::settings::{RawSettings, are_settings, settings_of, settings_refusal, staged_at};
-use dsa_calls::{PlanFault, fenced_pieces, own_pieces};
-use dsa_descriptor::{Descriptor, Span};
-use dsa_plan::read_emission;
-use dsa_tracker::{Slots, Submitted, WordsFault, words};
+use dsa_calls::{PlanFault, own_pieces};
+use dsa_descriptor::Span;
+use dsa_operations::{AnyPieces, Operation, any_pieces};
+use dsa_plan::read_submitted;
+use dsa_tracker::{Slots, Submitted, Tracked, WordsFault, words};
 use std::alloc::Global;
 
 /// The refusal of this cause.
@@ -80,17 +81,15 @@ fn split_pieces(
     settings: &RawSettings,
     table: &[u64],
     list: &[u8],
-) -> Result<Vec<Descriptor>, RawRefusal>
+) -> Result<AnyPieces, RawRefusal>
     ensures { let s = settings.now in let t = table.now in MatchResult result
-        (λ pieces. (barriers : List Bool) ×
-        ArePiecesUnder s t list.now pieces.items barriers)
-        (λ r. (0 < r.number) × RefusesToPlan s t list.now r) }
+        (ArePiecesUnder s t list.now) (λ r. (0 < r.number) × RefusesToPlan s t list.now r) }
 {
     let Some(checked) = settings_of(settings, table) else {
         return Err(settings_refusal(settings));
     };
-    match fenced_pieces(alloc, list, &checked) {
-        Ok(found) => Ok(found.descriptors),
+    match any_pieces(alloc, list, &checked) {
+        Ok(pieces) => Ok(pieces),
         Err(fault) => Err(refusal(fault)),
     }
 }
@@ -101,19 +100,36 @@ fn pieces_for(
     settings: &RawSettings,
     table: &[u64],
     list: &[u8],
-) -> Result<Vec<Descriptor>, RawRefusal>
+) -> Result<AnyPieces, RawRefusal>
     ensures { let s = settings.now in let t = table.now in MatchResult result
-        (λ pieces. (barriers : List Bool) ×
-        ArePiecesUnder s t list.now pieces.items barriers)
-        (λ r. (0 < r.number) × RefusesToPlan s t list.now r) }
+        (ArePiecesUnder s t list.now) (λ r. (0 < r.number) × RefusesToPlan s t list.now r) }
 {
     if !are_settings(settings, table) {
         return split_pieces(alloc, settings, table, list);
     }
     match own_pieces(alloc, list, settings.greatest_transfer, settings.staging) {
-        Ok(Some(pieces)) => Ok(pieces),
+        Ok(Some(pieces)) => Ok(AnyPieces::Descriptors(pieces)),
         Ok(None) => split_pieces(alloc, settings, table, list),
         Err(_) => Err(refusal(PlanFault::Memory)),
+    }
+}
+
+/// Hands a submission of these pieces to the tracker.
+fn submit_pieces<P: Tracked>(
+    words: &mut [u64],
+    pieces: &[P],
+    staging: Span,
+    also: Slots,
+) -> Result<Submitted, RawRefusal>
+    ensures { MatchResult result
+        (λ taken. TakesPieces P.owner P.reads P.writes
+        words.old pieces.now staging also taken words.new)
+        (λ r. (0 < r.number) × RefusesAsTracked P.owner words.old pieces.now staging r
+        × (words.new ≡ words.old)) }
+{
+    match words::submit(words, pieces, staging, also) {
+        Ok(submitted) => Ok(submitted),
+        Err(fault) => Err(track_refusal(fault)),
     }
 }
 
@@ -133,13 +149,10 @@ fn take_list(
         × (words.new ≡ words.old)) }
 {
     let staged = staged_at(settings, staging.first);
-    let pieces = match pieces_for(alloc, &staged, table, list) {
-        Ok(pieces) => pieces,
-        Err(cause) => return Err(cause),
-    };
-    match words::submit(words, &pieces, staging, also) {
-        Ok(submitted) => Ok(submitted),
-        Err(fault) => Err(track_refusal(fault)),
+    match pieces_for(alloc, &staged, table, list) {
+        Ok(AnyPieces::Descriptors(pieces)) => submit_pieces(words, &pieces, staging, also),
+        Ok(AnyPieces::Operations(pieces)) => submit_pieces(words, &pieces, staging, also),
+        Err(cause) => Err(cause),
     }
 }
 
@@ -244,7 +257,7 @@ fn take_groups(
     let Some(limits) = settings_of(settings, table) else {
         return Err(settings_refusal(settings));
     };
-    let (plan, pieces) = match read_emission(alloc, portal, staging, &limits) {
+    let (plan, pieces) = match read_submitted::<Operation>(alloc, portal, staging, &limits) {
         Ok(read) => read,
         Err(fault) => return Err(refusal(PlanFault::from(fault))),
     };

@@ -1,10 +1,8 @@
 //! What is worth a warning about the plan of a list, into an array of the caller.
 
 ghost use Rattle.std.specs.Prelude.{◌≡◌, ◌≢◌, ◌<◌, ◌≤◌, IfOk, length, map, MatchResult, take};
-ghost use Rattle.dsa_descriptor.specs.Descriptors.{fields};
 ghost use Rattle.dsa_descriptor.specs.Pieces.{most_pieces};
 ghost use Rattle.dsa_plan.specs.Plan.{piece_count};
-ghost use Rattle.dsa_resume.specs.Shared.{IsSpare};
 ghost use Rattle.dsa_c.specs.Planning.{AreOfPlan};
 ghost use Rattle.dsa_c.specs.Raw.{written};
 ghost use Rattle.dsa_c.specs.Warnings.{AreRawWarningsOf, AreWarningsInto, RefusesWarn, concern_in, raw_warning_of, warning_words_of};
@@ -14,7 +12,8 @@ use crate::planning::planned_for;
 use crate::refusal::{RawRefusal, refusal, refusal_at};
 use crate::settings::RawSettings;
 use crate::texts::put_front;
-use dsa_calls::{PlanFault, Planned};
+use dsa_calls::PlanFault;
+use dsa_operations::AnyPlanned;
 use dsa_warnings::{Concern, Warning, warning_text, warnings_of};
 use std::alloc::{AllocError, Global};
 
@@ -80,21 +79,15 @@ fn raw_warnings(alloc: Global, warnings: &[Warning]) -> Result<Vec<RawWarning>, 
     Ok(raw)
 }
 
-/// What is worth a warning about what is planned. The spare byte is in no record.
-fn warnings_in(alloc: Global, planned: &Planned, spare: u64) -> Result<Vec<RawWarning>, AllocError>
-    requires all { piece_count planned.now.plan ≡ length planned.now.pieces.items }
-    requires few { length planned.now.pieces.items ≤ most_pieces }
-    requires spare { IsSpare spare (map fields planned.now.pieces.items) }
-    ensures { IfOk result (λ raw. AreRawWarningsOf planned.now.pieces.items
+/// What is worth a warning about what is planned.
+fn warnings_in(alloc: Global, planned: &AnyPlanned) -> Result<Vec<RawWarning>, AllocError>
+    requires all { piece_count planned.now.plan ≡ length planned.now.operations.items }
+    requires few { length planned.now.operations.items ≤ most_pieces }
+    ensures { IfOk result (λ raw. AreRawWarningsOf planned.now.operations.items
         planned.now.barriers.items planned.now.plan raw.items) }
 {
-    let warnings = warnings_of(
-        alloc,
-        &planned.plan,
-        &planned.pieces,
-        &planned.barriers,
-        spare,
-    )?;
+    let (plan, operations) = (&planned.plan, planned.operations.as_slice());
+    let warnings = warnings_of(alloc, plan, operations, &planned.barriers)?;
     raw_warnings(alloc, &warnings)
 }
 
@@ -115,8 +108,7 @@ fn warnings_for(
         Ok(planned) => planned,
         Err(cause) => return Err(cause),
     };
-    // no piece touches the staging area, so its first byte is in no record
-    let Ok(warnings) = warnings_in(alloc, &planned, settings.staging) else {
+    let Ok(warnings) = warnings_in(alloc, &planned) else {
         return Err(refusal(PlanFault::Memory));
     };
     if warnings.len() > room {

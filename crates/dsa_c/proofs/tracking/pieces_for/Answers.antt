@@ -6,7 +6,7 @@ pub returns-in-Ok-Some : goal.returns-in-Ok-Some
 returns-in-Ok-Some c =
     let kept = c.in-Ok-Some.ensures (limits_of c.args.settings.now c.args.table.now) refl refl in
     let found = rw c.in-Ok-Some.field-0-is at kept in
-    (found.0, record { settings = c.are_settings.ensures c.if-not-are_settings.false; pieces_are = found.1 })
+    (c.are_settings.ensures c.if-not-are_settings.false, found)
 
 pub returns-in-Err : goal.returns-in-Err
 returns-in-Err c = (

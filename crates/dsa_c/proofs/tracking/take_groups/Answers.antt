@@ -1,7 +1,7 @@
-use Rattle.std.proofs.Common.{inr, List, length, map, refl, subst}
-use Rattle.dsa_descriptor.specs.declared.descriptor.Descriptor.{Descriptor}
-use Rattle.dsa_descriptor.specs.Descriptors.{fields}
-use Rattle.dsa_plan.specs.EmissionFaults.{IsEmission}
+use Rattle.std.proofs.Common.{inr, List, length, refl, subst}
+use Rattle.dsa_operations.specs.declared.operation.Operation.{Operation}
+use Rattle.dsa_operations.specs.Operations.{operation_kind}
+use Rattle.dsa_plan.specs.EmissionFaults.{IsEmissionAs}
 use Rattle.dsa_plan.specs.Settings.{Limits}
 use Rattle.dsa_c.specs.Tracking.{RefusesPlan, TakesPlan}
 use Rattle.dsa_c.proofs.Emissions.{refuses_emission}
@@ -21,8 +21,8 @@ returns-in-Ok-submit_groups c =
       c.in-Ok.read.0,
       c.in-Ok.read.1.items,
       c.in-Some.ensures.1,
-      subst (λ (l : Limits). IsEmission l c.args.portal.now c.args.staging.now c.in-Ok.read.0 c.in-Ok.read.1.items) c.in-Some.ensures.0 c.in-Ok.ensures.found,
-      subst (λ (ds : List Descriptor). TakesPlan c.args.words.now (map fields ds) c.in-Ok.read.0 c.args.settings.now.staging c.args.also c.args.slots.now c.submit_groups.new.slots c.submit_groups.new.words)
+      subst (λ (l : Limits). IsEmissionAs operation_kind l c.args.portal.now c.args.staging.now c.in-Ok.read.0 c.in-Ok.read.1.items) c.in-Some.ensures.0 c.in-Ok.ensures.found,
+      subst (λ (ds : List Operation). TakesPlan c.args.words.now ds c.in-Ok.read.0 c.args.settings.now.staging c.args.also c.args.slots.now c.submit_groups.new.slots c.submit_groups.new.words)
           c.deref.ensures.value (answer.0, answer.1, answer.2, answer.3, c.in-Ok-submit_groups.ensures.rest),
     )
 
@@ -35,8 +35,8 @@ returns c =
         c.in-Ok.read.1.items,
         c.in-Err-submit_groups.fault,
         c.in-Some.ensures.1,
-        subst (λ (l : Limits). IsEmission l c.args.portal.now c.args.staging.now c.in-Ok.read.0 c.in-Ok.read.1.items) c.in-Some.ensures.0 c.in-Ok.ensures.found,
-        subst (λ (ds : List Descriptor). RefusesPlan c.args.words.now (map fields ds) c.in-Ok.read.0 c.args.settings.now.staging (length c.args.slots.now) c.in-Err-submit_groups.fault)
+        subst (λ (l : Limits). IsEmissionAs operation_kind l c.args.portal.now c.args.staging.now c.in-Ok.read.0 c.in-Ok.read.1.items) c.in-Some.ensures.0 c.in-Ok.ensures.found,
+        subst (λ (ds : List Operation). RefusesPlan c.args.words.now ds c.in-Ok.read.0 c.args.settings.now.staging (length c.args.slots.now) c.in-Err-submit_groups.fault)
             c.deref.ensures.value answer.0,
         c.track_refusal.ensures.value,
       ))),

@@ -27,7 +27,7 @@ import model
 from campaign import Case
 from common import ROOT, expect
 from coq_wrong import lines_of
-from model import FILL
+from model import FILL, MOVE
 
 COQ = ROOT / "coq"
 NEEDED = ("coqc", "coqdep", "ocamlfind")
@@ -35,6 +35,8 @@ JOBS = int(os.environ.get("JOBS", "500"))
 SEED = os.environ.get("SEED", "1")
 # Of how many jobs one is a run, and two are of a list with barriers.
 RUN, BARRIER = 10, 5
+# Operations that only the calls from C take, and the flag of a seed in memory.
+CRC, COPY_CRC, SEED_READ = 0x10, 0x11, 0x10000
 # The calls from C take two pieces that do not conflict as a pair if a barrier is between them and nothing else. The
 # judges take any two that a barrier parts: then a certificate that the calls refuse so may show the least cost, too.
 PAIR = "refused 62"
@@ -231,17 +233,32 @@ class Calls:
             return f"refused {refusal.number}"
 
 
-def with_barriers(draw, case):
-    """The list of a case, with the flag of a barrier in some of its operations."""
-    return b"".join(model.replace(it, flags=it.flags | draw.choice([0, 0, 1])).bytes() for it in case.operations)
+def summed(draw, op):
+    """The bytes of an operation; those of a move may be of a checksum of its source, or of a copy with one."""
+    if op.code != MOVE or draw.random() < 0.3:
+        return op.bytes()
+    copies = draw.random() < 0.5 and not model.meet((op.first, op.size), (op.second, op.size))
+    op = model.replace(op, code=COPY_CRC if copies else CRC, second=op.second if copies else 0)
+    op = model.replace(op, flags=op.flags | draw.choice([0, 0x20000, 0x40000, 0x60000]))
+    at = draw.choice([op.first, op.first ^ 0x1000, op.record_at ^ 0x210])
+    if draw.random() < 0.5 or model.any_meet([(at, 4)], op.writes() + [(op.second, copies * op.size)]):
+        return model.replace(op, own=draw.getrandbits(32)).bytes()
+    text = model.replace(op, flags=op.flags | SEED_READ).bytes()
+    return text[:48] + at.to_bytes(8, "little") + text[56:]
+
+
+def with_barriers(draw, descriptors):
+    """A list of these, with the flag of a barrier in some."""
+    return b"".join(it[:4] + bytes([it[4] | draw.choice([0, 0, 1])]) + it[5:] for it in descriptors)
 
 
 def barrier_jobs(calls, number):
     """Jobs with a list that has barriers: its plan, changes of it, and the plan beside the list with other barriers
-    and with none."""
+    and with none. One list of three has pieces that are short, and checksums among them."""
     case, draw = Case(f"coq/barriers/{SEED}/{number}"), random.Random(f"barriers/{SEED}/{number}")
-    own, other = with_barriers(draw, case), with_barriers(draw, case)
-    none = bytes.fromhex(case.digits(case.operations))
+    short = [summed(draw, it) for it in case.pieces]
+    descriptors = [it.bytes() for it in case.operations] if number % 3 else short
+    own, other, none = with_barriers(draw, descriptors), with_barriers(draw, descriptors), b"".join(descriptors)
     job = case.job("check", list=own.hex(), **calls.planned(case.job("")["settings"], own))
     jobs = [job, {**job, "list": other.hex()}, {**job, "list": none.hex()}]
     jobs.append({**job, **calls.planned(job["settings"], none)})

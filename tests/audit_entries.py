@@ -4,11 +4,11 @@ what each reads and writes, byte by byte. Addresses are sets of bytes, and nothi
 import struct
 
 from common import move
-from model import COMPARE, DELTA, DUALCAST, FILL, MOVE, PATTERN, Op
+from model import COMPARE, COPY_CRC, CRC, DELTA, DUALCAST, FILL, MOVE, PATTERN, Op
 
 WRAP = 1 << 64
 # Operations beyond those of a plan, with their names: docs/FORMATS.md, and linux/idxd.h but for 0x0a and 0x17.
-DRAIN, CREATE, FETCH, CRC, COPY_CRC, CHECK, INSERT, STRIP, UPDATE, FLUSH = 0x02, 0x07, 0x0A, *range(0x10, 0x16), 0x20
+DRAIN, CREATE, FETCH, CHECK, INSERT, STRIP, UPDATE, FLUSH = 0x02, 0x07, 0x0A, *range(0x12, 0x16), 0x20
 FURTHER = {DRAIN: "drain", CREATE: "create delta", FETCH: "translation fetch", CRC: "CRC", COPY_CRC: "copy with CRC"}
 FURTHER |= {CHECK: "DIF check", INSERT: "DIF insert", STRIP: "DIF strip", UPDATE: "DIF update", FLUSH: "cache flush"}
 NAMED = FURTHER | {0x17: "DIX generate"}

@@ -102,6 +102,17 @@ def with_library():
     return {**os.environ, "DSA_PLANNER_LIBRARY": library}
 
 
+def planner(folder):
+    """The Python module over that shared object, which is built in the folder."""
+    global WORK
+    WORK = folder
+    os.environ.update(with_library())
+    sys.path.insert(0, str(ROOT / "bindings/python"))
+    import dsa_planner
+
+    return dsa_planner
+
+
 def resumed():
     """What is left of random lists by random completion records, and each refusal (RESUMED=100000); lists that stop,
     some with shared records, beside a model (STOPPED=20000)."""

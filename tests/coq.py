@@ -14,7 +14,6 @@ import random
 import resource
 import shutil
 import subprocess
-import sys
 import tempfile
 from glob import glob
 from pathlib import Path
@@ -27,7 +26,7 @@ import model
 from campaign import Case
 from common import ROOT, expect
 from coq_wrong import lines_of
-from model import FILL, MOVE
+from model import COPY_CRC, CRC, FILL, MOVE, PLAIN_DATA, PLAIN_SUM, Checksum
 
 COQ = ROOT / "coq"
 NEEDED = ("coqc", "coqdep", "ocamlfind")
@@ -35,8 +34,6 @@ JOBS = int(os.environ.get("JOBS", "500"))
 SEED = os.environ.get("SEED", "1")
 # Of how many jobs one is a run, and two are of a list with barriers.
 RUN, BARRIER = 10, 5
-# Operations that only the calls from C take, and the flag of a seed in memory.
-CRC, COPY_CRC, SEED_READ = 0x10, 0x11, 0x10000
 # The calls from C take two pieces that do not conflict as a pair if a barrier is between them and nothing else. The
 # judges take any two that a barrier parts: then a certificate that the calls refuse so may show the least cost, too.
 PAIR = "refused 62"
@@ -202,12 +199,7 @@ class Calls:
 
     def __init__(self, out):
         bindings.make.need_proved("libdsa_c.a")
-        bindings.WORK = str(out)
-        os.environ.update(bindings.with_library())
-        sys.path.insert(0, str(ROOT / "bindings/python"))
-        import dsa_planner
-
-        self.planner = dsa_planner
+        self.planner = bindings.planner(str(out))
 
     def settings(self, numbers):
         return self.planner.Settings(**{name: it for name, it in numbers.items() if name != "version"})
@@ -238,13 +230,13 @@ def summed(draw, op):
     if op.code != MOVE or draw.random() < 0.3:
         return op.bytes()
     copies = draw.random() < 0.5 and not model.meet((op.first, op.size), (op.second, op.size))
-    op = model.replace(op, code=COPY_CRC if copies else CRC, second=op.second if copies else 0)
-    op = model.replace(op, flags=op.flags | draw.choice([0, 0x20000, 0x40000, 0x60000]))
+    flags = op.flags | draw.choice([0, PLAIN_SUM, PLAIN_DATA, PLAIN_SUM | PLAIN_DATA])
     at = draw.choice([op.first, op.first ^ 0x1000, op.record_at ^ 0x210])
-    if draw.random() < 0.5 or model.any_meet([(at, 4)], op.writes() + [(op.second, copies * op.size)]):
+    places = (op.size, op.record_at, op.first, op.second if copies else 0)
+    op = Checksum(COPY_CRC if copies else CRC, *places, flags=flags, handle=op.handle)
+    if draw.random() < 0.5 or model.any_meet([(at, 4)], op.writes()):
         return model.replace(op, own=draw.getrandbits(32)).bytes()
-    text = model.replace(op, flags=op.flags | SEED_READ).bytes()
-    return text[:48] + at.to_bytes(8, "little") + text[56:]
+    return model.replace(op, seed_at=at).bytes()
 
 
 def with_barriers(draw, descriptors):

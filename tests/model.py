@@ -3,10 +3,13 @@ write and leave, their pieces, every legal plan of a few pieces, the plan that i
 and what a run leaves. It shares no code with the planner."""
 
 from dataclasses import dataclass, replace
+from functools import lru_cache
+from typing import Optional
 
-MOVE, FILL, COMPARE, PATTERN, DELTA, DUALCAST = 0x03, 0x04, 0x05, 0x06, 0x08, 0x09
-FENCE, CHECKED = 0x0001, 0x0080
+MOVE, FILL, COMPARE, PATTERN, DELTA, DUALCAST, CRC, COPY_CRC = 0x03, 0x04, 0x05, 0x06, 0x08, 0x09, 0x10, 0x11
+FENCE, CHECKED, SEED_READ, PLAIN_SUM, PLAIN_DATA = 0x0001, 0x0080, 0x010000, 0x020000, 0x040000
 LINE, ENTRIES = 4096, 256
+POLYNOMIAL = 0x82F63B78  # of CRC-32C, from the power 31 down
 
 
 @dataclass(frozen=True)
@@ -57,6 +60,33 @@ class Op:
         return -(-self.size // LINE)
 
 
+@dataclass(frozen=True)
+class Checksum(Op):
+    """CRC generation, or copy with CRC: `second` is the destination of a copy, and `own` the seed, unless that is read
+    from four bytes at `seed_at`. It is never split."""
+
+    seed_at: Optional[int] = None
+
+    def bytes(self, fenced=False):
+        if self.seed_at is None:
+            return super().bytes(fenced)
+        text = Op.bytes(replace(self, flags=self.flags | SEED_READ), fenced)
+        return text[:48] + self.seed_at.to_bytes(8, "little") + text[56:]
+
+    def seeds(self):
+        return [] if self.seed_at is None else [(self.seed_at, 4)]
+
+    def sources(self):
+        return [(self.first, self.size), *self.seeds()]
+
+    def targets(self):
+        return [(self.second, self.size)] if self.code == COPY_CRC else []
+
+
+def is_checksum(op):
+    return isinstance(op, Checksum)
+
+
 def meet(one, other):
     return one[1] > 0 and other[1] > 0 and one[0] < other[0] + other[1] and other[0] < one[0] + one[1]
 
@@ -80,6 +110,8 @@ def fits(op, transfer):
     if op.code == DUALCAST:
         ranges = op.sources() + op.targets()
         return not any(meet(ranges[i], ranges[j]) for i, j in ((0, 1), (0, 2), (1, 2)))
+    if op.code == COPY_CRC:
+        return not any_meet(op.sources(), op.targets())
     if op.code in (COMPARE, PATTERN) and op.flags & CHECKED and op.own == 1:
         return op.size <= transfer
     return True
@@ -127,11 +159,30 @@ def delta(memory, op):
     return 1
 
 
+@lru_cache(4096)
+def checksum(data, seed, flags):
+    """The checksum of some bytes, a bit at a time: inverted at both ends, or neither inverted nor reflected, and of the
+    lowest bit of each byte first, or of the highest."""
+    reflected = lambda number: int(f"{number:032b}"[::-1], 2)
+    rest = reflected(seed) if flags & PLAIN_SUM else seed ^ 0xFFFFFFFF
+    for byte in data:
+        for k in reversed(range(8)) if flags & PLAIN_DATA else range(8):
+            rest = rest >> 1 ^ (POLYNOMIAL if (rest ^ byte >> k) & 1 else 0)
+    return reflected(rest) if flags & PLAIN_SUM else rest ^ 0xFFFFFFFF
+
+
+def checksum_of(memory, op):
+    """The value that an operation leaves in its record."""
+    seed = op.own if op.seed_at is None else int.from_bytes(memory[op.seed_at : op.seed_at + 4], "little")
+    return checksum(bytes(memory[op.first : op.first + op.size]), seed, op.flags)
+
+
 def execute(memory, op):
     """Does the operation in the memory, whose first address is 0, and answers its status."""
     status, result, completed = 1, 0, 0
+    value = checksum_of(memory, op) if is_checksum(op) else 0
     source = bytes(memory[op.first : op.first + op.size])
-    if op.code in (MOVE, DUALCAST):
+    if op.code in (MOVE, DUALCAST, COPY_CRC):
         memory[op.second : op.second + op.size] = source
     if op.code == DUALCAST:
         memory[op.own : op.own + op.size] = source
@@ -144,7 +195,8 @@ def execute(memory, op):
         status, result, completed = compare(op, source, op.second.to_bytes(8, "little") * (op.size // 8 + 1))
     if op.code == DELTA:
         status = delta(memory, op)
-    record = bytes([status, result, 0, 0]) + completed.to_bytes(4, "little") + bytes(24)
+    record = bytes([status, result, 0, 0]) + completed.to_bytes(4, "little") + bytes(8)
+    record += value.to_bytes(8, "little") + bytes(8)
     memory[op.record_at : op.record_at + 32] = record
     return status
 
@@ -279,11 +331,11 @@ def epochs(plan):
     return found
 
 
-def outcome(plan, pieces, memory):
+def outcome(plan, pieces, memory, do=execute):
     """What every complete run leaves: the memory, how many pieces were finished, and the batch records."""
     memory, statuses = bytearray(memory), []
     for epoch in epochs(plan):
-        statuses += [execute(memory, pieces[k]) for k in epoch]
+        statuses += [do(memory, pieces[k]) for k in epoch]
         if any(statuses[k] != 1 for k in epoch):
             break
     records, start = [], 0

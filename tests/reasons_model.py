@@ -10,17 +10,15 @@ import re
 import subprocess
 import sys
 from collections import Counter
-from dataclasses import dataclass
-from typing import Optional
 
 import model
 from common import program
+from model import COPY_CRC, CRC, Checksum, is_checksum
 from resume_model import drawn_ops, listed
 from dsa_planner import BEGINS, FENCED, Refusal, plan_list_certified
 from dsa_reasons import OVERLAP, SHARED_RECORD, UNCHECKED, UNGUARDED, Conflict, ListWarning, Reason, explain_list
 from dsa_reasons import warn_list
 
-CRC, COPY_CRC = 0x10, 0x11
 KINDS = ("fence", "beginning", "barrier", "in a record", "more", "none alone", "as dsa_text")
 OF_CHECKSUMS = ("checksums", "copied", "seed", "seed in a record", "shared by a checksum", "too long")
 WARNINGS = {SHARED_RECORD: "shared record", UNCHECKED: "unchecked", UNGUARDED: "unguarded", OVERLAP: "overlap"}
@@ -30,29 +28,6 @@ SAID = {
     UNGUARDED: "piece {}: what is after its check, up to a barrier, may run even if it fails",
     OVERLAP: "piece {}: its ranges overlap, and only devices with overlapping copy support (GENCAP bit 1) take it",
 }
-
-
-@dataclass(frozen=True)
-class Checksum(model.Op):
-    """CRC generation, or copy with CRC: `second` is the destination of a copy, and `own` the seed, unless that is read
-    from four bytes at `seed_at`. It is never split."""
-
-    seed_at: Optional[int] = None
-
-    def bytes(self, fenced=False):
-        text = super().bytes(fenced)
-        if self.seed_at is None:
-            return text
-        return text[:6] + b"\x01" + text[7:48] + self.seed_at.to_bytes(8, "little") + text[56:]
-
-    def seeds(self):
-        return [] if self.seed_at is None else [(self.seed_at, 4)]
-
-    def sources(self):
-        return [(self.first, self.size), *self.seeds()]
-
-    def targets(self):
-        return [(self.second, self.size)] if self.code == COPY_CRC else []
 
 
 def drawn_checksum(draw, record_at, before):
@@ -71,7 +46,7 @@ def with_checksums(draw, ops, transfer):
     mixed = list(ops)
     for at in range(len(ops)):
         tried = [drawn_checksum(draw, ops[at].record_at, mixed[:at]) for _ in range(draw.choice((0, 20)))]
-        may = [op for op in tried if model.fits(op, transfer) and not model.any_meet(op.sources(), op.targets())]
+        may = [op for op in tried if model.fits(op, transfer)]
         mixed[at] = may[0] if may else ops[at]
     return mixed
 
@@ -202,10 +177,6 @@ def kinds_of_checksums(pieces, reasons, warned):
             yield "copied"
         if is_checksum(other) and model.any_meet(other.seeds(), at):
             yield "seed" if conflict.record_of is None else "seed in a record"
-
-
-def is_checksum(op):
-    return isinstance(op, Checksum)
 
 
 def refused(call, settings, given):

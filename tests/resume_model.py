@@ -1,8 +1,9 @@
 """Lists that stop at a random place, some pieces of them by a fault that has written a part, and go on by `resume` of
 the Python module: a model that knows which pieces have ended says what is left, and whether memory has to end as if the
-list had been executed in order, each barrier waiting for success of all before it. Half of the lists have barriers, and
-some pieces that failed are given up. Records are apart, shared, or among the data; lists that share one have to be
-refused, with the pair that a look at each two pieces finds, and so have records that no barrier allows.
+list had been executed in order, each barrier waiting for success of all before it. Half of the lists have barriers, two
+fifths checksums, some of which go on with others, and some pieces that failed are given up. Records are apart, shared,
+or among the data; lists that share one have to be refused, with the pair that a look at each two pieces finds, and so
+have records that no barrier allows.
 tests/bindings.py runs it on the proved archive; by hand `DSA_PLANNER_LIBRARY=.. tests/resume_model.py 20000 7` takes
 as many lists as one likes, from another seed."""
 
@@ -12,7 +13,7 @@ from collections import Counter
 from pathlib import Path
 
 import model
-from model import COMPARE, FILL, MOVE, PATTERN, Op
+from model import COMPARE, COPY_CRC, CRC, FILL, MOVE, PATTERN, Checksum, Op
 
 sys.path.insert(0, str(Path(__file__).resolve().parent.parent / "bindings/python"))
 from dsa_planner import BEGINS, FENCED, Refusal, Settings, plan_list_certified, resume
@@ -20,10 +21,19 @@ from dsa_planner import BEGINS, FENCED, Refusal, Settings, plan_list_certified, 
 RECORDS, MEMORY = 2048, 8192
 
 
-def drawn_op(draw, number, count, space, records):
+def drawn_checksum(draw, code, count, space, size, record_at):
+    """A checksum of addresses below `space`, with a seed of its own or one in memory, as in the record of another."""
+    second = draw.randrange(space) if code == COPY_CRC else 0
+    seed_at = draw.choice((None, draw.randrange(space), RECORDS + 256 * draw.randrange(count) + 16))
+    own = draw.randrange(1 << 32) if seed_at is None else 0
+    return Checksum(code, size, record_at, draw.randrange(space), second, own, 0x0C, seed_at=seed_at)
+
+
+def drawn_op(draw, number, count, space, records, checksums, longest):
     """An operation on addresses below `space`, and a record of this kind; or none, if no list can have it."""
-    code = draw.choice((MOVE, MOVE, MOVE, FILL, FILL, COMPARE, PATTERN))
-    size, first, second, own, flags = draw.randrange(1, 25), draw.randrange(space), draw.randrange(space), 0, 0x0C
+    code = draw.choice((MOVE, MOVE, MOVE, FILL, FILL, COMPARE, PATTERN, *checksums))
+    size, own, flags = draw.randrange(1, longest + 1), 0, 0x0C
+    first, second = draw.randrange(space), draw.randrange(space)
     if code == FILL:
         first = draw.randrange(1 << 64)
     if code == PATTERN:
@@ -35,14 +45,18 @@ def drawn_op(draw, number, count, space, records):
         "shared": RECORDS + 32 * draw.randrange(4 * count),
         "among data": 32 * draw.randrange(space // 32 + 2),
     }
+    if code in checksums:
+        return drawn_checksum(draw, code, count, space, size, places[records])
     return Op(code, size, places[records], first, second, own, flags)
 
 
 def drawn_ops(draw, records, transfer):
+    """Operations that a list can have; none is longer than the greatest transfer where some may be checksums."""
     count, space = draw.randrange(2, 9), draw.choice((24, 64, 128, 512))
+    checksums, longest = (((CRC, COPY_CRC) * 2, min(24, transfer)) if draw.random() < 0.4 else ((), 24))
     ops = []
     while len(ops) < count:
-        op = drawn_op(draw, len(ops), count, space, records)
+        op = drawn_op(draw, len(ops), count, space, records, checksums, longest)
         if model.fits(op, transfer):
             ops.append(op)
     return ops

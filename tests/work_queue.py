@@ -12,6 +12,7 @@ import sys
 import tempfile
 from pathlib import Path
 
+import model
 from common import ROOT, SANITIZE, SANITIZE_THREADS, expect, named, run_test, sanitizers, skip
 from trace_runs import STRICT, WORK, built_all, client, ran, told, traced
 
@@ -170,14 +171,10 @@ def threads():
 
 
 def checksum():
-    """The example publishes exactly a block that is right, and says its checksum, by a bitwise remainder."""
+    """The example publishes exactly a block that is right, and says its checksum."""
     expect(len(CHECKSUM.read_text().splitlines()) <= 70, f"{CHECKSUM.name} has more than 70 lines")
-    remainder = 0xFFFFFFFF
-    for i in range(4096):
-        remainder ^= i * 7 & 0xFF
-        for _ in range(8):
-            remainder = remainder >> 1 ^ (0x82F63B78 if remainder & 1 else 0)
-    said = f"checksum {remainder ^ 0xFFFFFFFF:08x}, "
+    block = bytes(i * 7 & 0xFF for i in range(4096))
+    said = f"checksum {model.checksum(block, 0, 0):08x}, "
     failed = CHECKED.format(4, "the first difference is at byte 0")
     for how, lines in (("right", f"{said}published\n"), ("wrong", f"{failed}{said}not published\n")):
         end = traced("--seeds", 4 * SEEDS, "--order", "all", "--", client("queue_checksum"), how)
@@ -225,8 +222,8 @@ SAID = {
     "both": CHECKED.format(1, "the first difference is at byte 0"),
     "failing": DELTA.format("do not increase (status 7)") + DELTA.format("are out of range (status 8)") + DONE
     + CHECKED.format(0, "the bytes are equal"),
-    "checksums": 3 * DONE + CHECKED.format(1, "the first difference is at byte 0") + KEPT.format(3)
-    + DONE,
+    "checksums": 3 * DONE + CHECKED.format(1, "the first difference is at byte 0")
+    + FAULT.format(1, "write", 3, "writing") + 2 * DONE,
     "refused": "the list has not been run since it was changed; run it\nthe list is empty; add an operation\n"
     "refused 5: descriptor 1: the transfer size is 0\n"
     "operation 0 has 4294967296 bytes, and one may have at most 4294967295; use several\n"
@@ -324,7 +321,7 @@ STOPPED = {
     "after": DONE,
     "lost": SILENT.format(10000, "enabled") + HELD + DONE + SILENT.format(10000, "enabled"),
     "disabled": FULL.format(QUEUES[0], 10000) + SILENT.format(10000, "disabled"),
-    "populated": DONE + DONE,
+    "populated": 3 * DONE,
     "blamed": "operation 1: page fault at 0x1000 (write, status 0x3): nothing is mapped there, or it is not for "
     "writing; correct the address or the mapping\n",
     "overlapping": DONE + DONE,
@@ -444,6 +441,11 @@ WRONG = [
      "bytes += number_at(list->rest + at + 32, 4);\n        list->rest[at + 4] &= 0xfe;", "journal"),
     ("records of pieces that run from the end are taken in the other order", "fault.c",
      "(is_from_end(d) ? count - 1 - k : k)", "k", "split"),
+    ("a checksum is not said", "why.c", "        result.has_checksum = 1;\n", "", "lists"),
+    ("a checksum does not go on after an absent page", "fault.c", "    const bool is_page_fault = ",
+     "    const bool is_page_fault = !is_checksum(d) && ", "populated"),
+    ("the place of a checksum is that of another", "list.c", "list->first[operation] + CHECKSUM_AT",
+     "list->first[operation / 2] + CHECKSUM_AT", "lists"),
     ("an overlapping move is done again", "fault.c",
      "        shorten(list->rest + at, record_of(list->rest + at));\n", "", "lists"),
     ("a page fault that was mended is said", "fault.c", "                list->stopped_at = record;\n",
@@ -475,7 +477,7 @@ WRONG = [
 RUNS = {
     "again": ["ends", "again", QUEUES[0]],
     "lists": ["lists", QUEUES[0], LISTS, 1],
-    "split": ["lists", QUEUES[0], LISTS, 1],
+    "split": ["lists", QUEUES[0], 5 * int(LISTS), 1],
     "deep": ["lists", QUEUES[0], 5 * int(LISTS), 1, 8],
     "journal": ["queue_journal", "wrong", QUEUES[0]],
     "threads": ["ends", "threads", QUEUES[0]],
@@ -485,6 +487,7 @@ RUNS = {
     "after": ["stopped", "after"],
     "in_flight": ["stopped", "in_flight"],
     "blamed": ["stopped", "blamed"],
+    "populated": ["stopped", "populated"],
 }
 WITHOUT = {"stopped": "portal.c"}
 

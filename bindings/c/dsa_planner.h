@@ -10,10 +10,10 @@
  *            that is split the first piece is after the barrier, and the flag on the first operation says nothing. A
  *            plan keeps each barrier, by a fence or a new group, and no legal plan that does costs less.
  *
- * Checksums: a list, and bytes to submit, may have CRC generation (0x10) and copy with CRC (0x11), but dsa_prepare and
- *            dsa_resume refuse the two codes (2). Of a list with one no operation is split: one longer than
- *            greatest_transfer is refused (37); dsa_count_pieces counts as of other operations. A seed in memory is
- *            read by its operation: a checksum that reads it in the record of another comes after that one.
+ * Checksums: a list, and bytes to submit, may have CRC generation (0x10) and copy with CRC (0x11), but dsa_prepare
+ *            refuses the two codes (2). Of a list with one no operation is split: one longer than greatest_transfer is
+ *            refused (37); dsa_count_pieces counts as of other operations. A seed in memory is read by its operation:
+ *            a checksum that reads it in the record of another comes after that one.
  *
  * Proved:    of each call but dsa_planner_version, for all inputs of a caller that does what is asked below: which
  *            number it returns, and what it has written then, as its comment here says. The contracts are at the
@@ -533,14 +533,15 @@ struct dsa_resumed {
  * that source restored.
  *
  * Returns another number: refusal has it, and nothing else was written: the first refusal of dsa_plan_list but for
- * DSA_NO_ROOM (a checksum is refused as an unknown code is, 2), then DSA_RECORDS, then DSA_SHARED_RECORD,
- * DSA_NOT_FAILED, DSA_PASSED_BARRIER, then DSA_NO_ROOM_FOR_LIST.
+ * DSA_NO_ROOM, then DSA_RECORDS, then DSA_SHARED_RECORD, DSA_NOT_FAILED, DSA_PASSED_BARRIER, then
+ * DSA_NO_ROOM_FOR_LIST.
  * DSA_SHARED_RECORD: a record that another piece writes, with its data or its own record, does not say how its piece
- * has ended. Give each piece a record of its own before the next run. Now, if only pieces of groups that are known to
- * have completed, by the records of their batches, share records, give the pieces from the first entry on whose status
- * is not 1, with their records, as the list: they are the descriptors that were submitted, in the portal and in the
- * staging area, with the flag 0x0001 exactly where the list has a barrier (clear it on all others, and set it on the
- * first of a group before which there is one). Else restore the memory and run the whole list.
+ * has ended. Give each piece a record of its own before the next run, and let what reads a checksum in a record, as a
+ * seed, read it in the new one. Now, if only pieces of groups that are known to have completed, by the records of
+ * their batches, share records, give the pieces from the first entry on whose status is not 1, with their records, as
+ * the list: they are the descriptors that were submitted, in the portal and in the staging area, with the flag 0x0001
+ * exactly where the list has a barrier (clear it on all others, and set it on the first of a group before which there
+ * is one). Else restore the memory and run the whole list.
  * DSA_PASSED_BARRIER: piece refusal.second has begun although piece refusal.first has not succeeded and a barrier is
  * between them: groups were submitted too early, or records were not cleared.
  */

@@ -518,8 +518,7 @@ def resume(
     """What is left to submit of a list that was planned with these settings, once a submission has stopped: the pieces
     that have not finished, by their completion records, 32 bytes for each in their order (first byte 0: it waits; 1, 2:
     it has finished). Those of a move to a higher address within its own range run from the end, and so do its records.
-    Clear the records of what is left, and plan it: docs/USING.md says when that is right. Raises `Refusal`, also of a
-    list with a checksum (2).
+    Clear the records of what is left, and plan it: docs/USING.md says when that is right. Raises `Refusal`.
 
     A piece that failed is not done again if `given_up` has its number (that of the piece, not of the operation). If
     such a piece, or one with status 2, is before a barrier, all pieces after that are left out, and a later call

@@ -18,8 +18,7 @@
  * Faults:    a page that is absent is made present (Linux 5.14 or later), and what is left of the list is done. After
  *            any other failure nothing more is submitted; of what is, all before the next barrier may be done.
  * Checksums: a list with one (dsa_list_crc, dsa_list_copy_crc) is planned as it is, so none of its operations may be
- *            longer than the queue's greatest transfer; it is not prepared. Nothing more of it is submitted after a
- *            failed check or an absent page, either.
+ *            longer than the queue's greatest transfer; it is not prepared.
  * Memory:    dsa_queue_open takes all memory of the layer; only planning allocates later, and frees it again, and
  *            dsa_list_prepare, whose memory is kept with the list until the queue is closed.
  *            Completion records and staging areas are the queue's. Buffers have to stay until the list has ended, and

@@ -45,7 +45,7 @@ static bool can_go_on(struct dsa_list *list, const uint8_t *d, const uint8_t *re
     if (status <= STATUS_CHECK)
         return true;
     const bool is_page_fault = status == STATUS_FAULT || status == STATUS_FAULT_BLOCKED;
-    return is_page_fault && !list_keeps_faults(list) && mend(d, record);
+    return is_page_fault && !(list->queue->flags & DSA_QUEUE_KEEP_FAULTS) && mend(d, record);
 }
 
 /// Whether the pieces of a move run from its end, as those of one to a higher address within its own range do.
@@ -133,7 +133,7 @@ bool fault_resume(struct dsa_list *list)
     if (!list->is_resumed)
         begin(list);
     list->is_planned = false;
-    if (!is_batch_well(list) || !can_all_go_on(list, &len) || list_has_checksum(list))
+    if (!is_batch_well(list) || !can_all_go_on(list, &len))
         return false;
     settings.staging = address_of(list->staging);
     list->reason = NOT_RESUMED;

@@ -91,19 +91,6 @@ void list_look(struct dsa_list *list)
     list->at_misplaced = (int)i;
 }
 
-bool list_has_checksum(const struct dsa_list *list)
-{
-    uint32_t i = 0;
-    while (i < list->operations && !is_checksum(list->list + ENTRY * i))
-        i++;
-    return i < list->operations;
-}
-
-bool list_keeps_faults(const struct dsa_list *list)
-{
-    return list->queue->flags & DSA_QUEUE_KEEP_FAULTS || list_has_checksum(list);
-}
-
 /// Notes how an operation was placed: a wrong place of it is mended by a right one, and a wrong number, after which
 /// nobody knows which operations are where they should be, by places of all.
 static void note_place(struct dsa_list *list, int operation)

@@ -139,10 +139,6 @@ struct operand { uint8_t at; uint64_t first, len; };
 uint32_t operands_of(const uint8_t *d, struct operand operands[3]);
 /* Looks where all operations are now, and forgets that one was placed that the list has not. */
 void list_look(struct dsa_list *list);
-/* Whether an operation makes a checksum: what is left of such a list after a failure can't be planned. */
-bool list_has_checksum(const struct dsa_list *list);
-/* Whether page faults of the list stay, as the queue's options or a checksum have it. */
-bool list_keeps_faults(const struct dsa_list *list);
 
 /* ---- driver.c ---- */
 enum { STATE_ROOM = 64 };

@@ -101,7 +101,7 @@ static void why_failed(const struct dsa_list *list, char why[DSA_WHY_ROOM])
     else if (r.status == STATUS_CHECK)
         why_not(why, "operation %d: the check failed, the bytes are equal; nothing after the next barrier was begun",
                 failed);
-    else if (is_page_fault(r.status) && list_keeps_faults(list))
+    else if (is_page_fault(r.status) && list->queue->flags & DSA_QUEUE_KEEP_FAULTS)
         why_not(why, "operation %d: page fault at %#llx (%s, status %#x); make the page present, restore what "
                 "the list has changed, and run it again",
                 failed, at, r.is_write ? "write" : "read", r.status);

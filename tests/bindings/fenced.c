@@ -5,7 +5,8 @@
  * separate each conflict, as told here by what operations read and write, and that begin a group or set a fence at each
  * barrier; the least cost of these is the answer, and what is submitted keeps each barrier. A flag that is no barrier
  * changes no byte, and what is refused of the list without flags is refused. Of each plan dsa_judge says what it costs,
- * or which barrier it does not keep. Preparing and resuming refuse checksums by their code.
+ * or which barrier it does not keep. Preparing refuses checksums by their code; of a list that has not begun, resuming
+ * answers all.
  * With the certificate of these costs dsa_check_list accepts the bytes of those plans alone that are legal, keep the
  * barriers and cost the least, and no bytes of other pieces; and with its own certificate what dsa_plan_list_certified
  * writes, which is what dsa_plan_list does. With the certificate of the same pieces without barriers dsa_check accepts
@@ -453,25 +454,33 @@ static int is_refused(const struct list *l, uint32_t code, const struct dsa_refu
     return code == DSA_OPCODE && r->number == DSA_OPCODE && r->first == first;
 }
 
-/* Calls that take no checksums refuse the first one by its code. */
+/* Preparing takes no checksums, and refuses the first one by its code. */
 static void try_refused(const struct list *l)
 {
-    const struct dsa_settings *s = &l->settings;
     const struct dsa_region region = {0, UINT64_C(1) << 40};
     struct dsa_prepared_row rows[DSA_PREPARED_ROOM(2, MOST)];
     struct dsa_prepared_info info;
-    struct dsa_resumed resumed = {7, 7, 7};
     struct dsa_refusal r = {0};
-    const uint8_t records[32 * MOST] = {0};
-    uint8_t rest[ROOM];
-    const size_t len = 64 * l->count, room = sizeof rows / sizeof *rows;
-    uint32_t code = dsa_prepare(s, l->table, l->entries, l->bytes, len, &region, 1, rows, room, &info, &r);
+    const uint32_t code = dsa_prepare(&l->settings, l->table, l->entries, l->bytes, 64 * l->count, &region, 1, rows,
+                                      sizeof rows / sizeof *rows, &info, &r);
     if (!is_refused(l, code, &r))
         fail(l, "preparing takes a checksum", code, DSA_OPCODE);
-    code = dsa_resume(s, l->table, l->entries, l->bytes, len, records, 32 * l->count, records, 0, 0, rest, sizeof rest,
-                      &resumed, &r);
-    if (!is_refused(l, code, &r) || resumed.rest_len != 7)
-        fail(l, "resuming takes a checksum", code, DSA_OPCODE);
+}
+
+/* Before a list has begun all of it is left, unless two of its operations share a record. */
+static void try_resumed(const struct list *l)
+{
+    const uint8_t records[32 * MOST] = {0};
+    const size_t len = 64 * l->count;
+    struct dsa_resumed resumed = {7, 7, 7};
+    struct dsa_refusal r = {0};
+    uint8_t rest[ROOM], all[ROOM];
+    const uint32_t code = dsa_resume(&l->settings, l->table, l->entries, l->bytes, len, records, 32 * l->count, records,
+                                     0, 0, rest, sizeof rest, &resumed, &r);
+    memcpy(all, l->bytes, len);
+    all[4] &= 0xfe;
+    if (code != DSA_SHARED_RECORD && (code || resumed.rest_len != len || memcmp(rest, all, len) != 0))
+        fail(l, "something else is left", code, resumed.rest_len);
 }
 
 /* A checksum as a list may not have it, and the cause. */
@@ -591,6 +600,7 @@ int main(int argc, char **argv)
         try_checks(&l);
         if (l.has_checksums) {
             try_refused(&l);
+            try_resumed(&l);
             try_spoilt(&l);
         } else
             try_prepared(&l);

@@ -218,7 +218,7 @@ int main(void)
     struct dsa_refusal r;
     put_inputs(1);
     for (int which = 0; which < CALLS; which++)
-        if (which != 4 && which != 8) /* preparing and resuming take no checksums */
+        if (which != 4) /* preparing takes no checksums */
             refuse_each(which, 1);
     put_inputs(0);
     for (int which = 0; which < CALLS; which++)

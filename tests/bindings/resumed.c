@@ -1,7 +1,8 @@
 /*
- * What dsa_resume answers of random lists of moves and fills, some of them split and some with barriers, of random
- * completion records and of pieces that are given up, in both orders, beside the pieces that are split here; and each
- * refusal, which leaves all but itself as it was. What is left can be planned.
+ * What dsa_resume answers of random lists of moves and fills, some of them split and some with barriers, and of lists
+ * that have checksums, too, none of which is split; of random completion records and of pieces that are given up, in
+ * both orders, beside the pieces that are split here; and each refusal, which leaves all but itself as it was. What is
+ * left can be planned.
  *
  *     resumed COUNT SEED
  */
@@ -10,9 +11,10 @@
 #include <stdlib.h>
 #include <string.h>
 
+#include "dsa_descriptors.h"
 #include "dsa_planner.h"
 
-enum { OPERATIONS = 12, PIECES = 4 * OPERATIONS, GREATEST = 64, MOVE = 3, FILL = 4 };
+enum { OPERATIONS = 12, PIECES = 4 * OPERATIONS, GREATEST = 64, MOVE = 3, FILL = 4, CRC = 0x10, COPY_CRC = 0x11 };
 
 static const struct dsa_settings settings = {
     .version = 1, .greatest_batch = 8, .greatest_transfer = GREATEST, .lone = 10, .batch = 14, .fence = 3,
@@ -50,18 +52,41 @@ static void spell(uint8_t *to, int code, uint64_t record, uint64_t first, uint64
     put(to + 32, size, 4);
 }
 
-/* A list, and the pieces that it is split into. */
+static uint64_t record_of(uint64_t i)
+{
+    return 0x8000 + 32 * PIECES * i;
+}
+
+/* A checksum, or a copy with one; its seed is given, or in the record of an earlier operation. */
+static void make_checksum(uint8_t *to, uint64_t i, uint64_t from, uint64_t target, uint64_t size)
+{
+    const int code = below(2) ? CRC : COPY_CRC;
+    spell(to, code, record_of(i), from, code == CRC ? 0 : target, size);
+    if (i && below(2))
+        dsa_seed_from(to, record_of(below(i)) + 16);
+    else
+        put(to + 40, below(UINT32_MAX), 4);
+}
+
+/* A list, and the pieces that it is split into; those of a list with checksums are its operations. */
 static uint64_t make(void)
 {
-    const uint64_t count = below(OPERATIONS + 1), with_barriers = below(2);
+    const uint64_t count = below(OPERATIONS + 1), with_barriers = below(2), with_checksums = below(3) == 0;
     piece_count = 0;
     for (uint64_t i = 0; i < count; ++i) {
         const int code = below(3) ? MOVE : FILL;
-        const uint64_t record = 0x8000 + 32 * PIECES * i, from = 0x100000 * (1 + below(4)), to = 0x1000000 + 0x1000 * i;
-        const uint64_t size = 1 + below(4 * GREATEST);
-        const int barrier = with_barriers && below(3) == 0;
-        spell(list + 64 * i, code, record, code == MOVE ? from : 0x1122334455667788, to, size);
+        const uint64_t record = record_of(i), from = 0x100000 * (1 + below(4)), to = 0x1000000 + 0x1000 * i;
+        const uint64_t size = 1 + below(with_checksums ? GREATEST : 4 * GREATEST);
+        const int barrier = with_barriers && below(3) == 0, is_checksum = with_checksums && below(2);
+        if (is_checksum)
+            make_checksum(list + 64 * i, i, from, to, size);
+        else
+            spell(list + 64 * i, code, record, code == MOVE ? from : 0x1122334455667788, to, size);
         list[64 * i + 4] |= (uint8_t)barrier;
+        if (is_checksum) {
+            memcpy(pieces[piece_count++], list + 64 * i, 64);
+            continue;
+        }
         for (uint64_t at = 0, k = 0; at < size; at += GREATEST, ++k) {
             spell(pieces[piece_count], code, record + 32 * k, code == MOVE ? from + at : 0x1122334455667788, to + at,
                   size - at < GREATEST ? size - at : GREATEST);

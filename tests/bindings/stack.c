@@ -150,8 +150,8 @@ int main(int argc, char **argv)
         for (uint64_t i = 0; i < checksums; i++)
             list[64 * i + 7] = 0x11;
         for (int which = 0; which < CALLS; which++) {
-            if (checksums && (which == 6 || which == 7 || which == 11))
-                continue; /* preparing and resuming refuse them */
+            if (checksums && (which == 6 || which == 7))
+                continue; /* preparing refuses them */
             size_t bytes = touched_by(call, which) - base;
             greatest[which] = bytes > greatest[which] ? bytes : greatest[which];
         }

@@ -176,12 +176,14 @@ static int failing(void)
 }
 
 /* Checksums, of vectors of RFC 3720 and of "123456789": in one, after a copy of its beginning, and of bytes elsewhere.
- * A list with one does not go on after a failed check or an absent page. In flight it waits for what it reads. */
+ * After a failed check nothing after the next barrier is done, and after a page that can't be made present the list can
+ * be run again. In flight it waits for what it reads. */
 static int checksums(void)
 {
     const struct dsa_queue_options o = {.flags = DSA_QUEUE_IN_FLIGHT};
     struct dsa_queue *queue = opened(NULL), *tracked = opened(&o);
     struct dsa_list *list = dsa_list_get(queue), *other = dsa_list_get(tracked), *before = dsa_list_get(tracked);
+    uint8_t d[64], *target = mapped(PROT_NONE);
     memcpy(a, "123456789", 9);
     memset(c, 0xff, 32);
     dsa_list_crc(list, a, 9, 0);
@@ -204,8 +206,13 @@ static int checksums(void)
     right = ends(list, DSA_LIST_FAILED) && right && dsa_list_failed(list) == 1 && b[128] == 0;
     right = right && dsa_list_result(list, 0).checksum == 0xe3069283 && !dsa_list_checksum(list, 1);
     dsa_list_clear(list);
-    dsa_list_copy_crc(list, a, mapped(PROT_NONE), 9, 0);
-    right = ends(list, DSA_LIST_FAILED) && right && !dsa_list_result(list, 0).has_checksum;
+    dsa_list_crc(list, a, 4, 0);
+    dsa_put_copy_crc(d, (uintptr_t)(a + 4), (uintptr_t)target, 5, 0, 0);
+    dsa_seed_from(d, (uintptr_t)dsa_list_checksum(list, 0));
+    dsa_list_add(list, d, 5);
+    right = ends(list, DSA_LIST_FAILED) && right && !dsa_list_result(list, 1).has_checksum;
+    mprotect(target, PAGE, PROT_READ | PROT_WRITE);
+    right = ends(list, DSA_LIST_DONE) && right && dsa_list_result(list, 1).checksum == 0xe3069283;
     dsa_list_crc(other, a, 9, 0);
     right = ends(other, DSA_LIST_DONE) && right && dsa_list_result(other, 0).checksum == 0xe3069283;
     dsa_list_move(before, a, b + 2 * PAGE, 9);

@@ -1,5 +1,6 @@
 /* Random lists on one queue, beside the processor, which does them one after another: memory, results, what a failed
- * check stops, and which lists are left out because they come after one that has failed.
+ * check stops, and which lists are left out because they come after one that has failed. Each third list may have
+ * checksums, some of which go on with others.
  *     lists QUEUE COUNT SEED [DEEP]     so many in flight, at most 8; ends with 0 if all is equal */
 #include <stdio.h>
 #include <stdlib.h>
@@ -7,22 +8,24 @@
 
 #include <dsa_queue.h>
 
-enum { PAGE = 4096, SIZE = 16 * PAGE, MOST = 12, MOVES = 3, ENTRIES = 4, ENTRY_OF_DELTA = 10, DEEP = 8 };
+enum { PAGE = 4096, SIZE = 16 * PAGE, MOST = 12, MOVES = 3, CHECKSUMS = 4, SHORT = 256 };
+enum { ENTRIES = 4, ENTRY_OF_DELTA = 10, DEEP = 8 };
 
 /* What an operation has to end with. */
-struct wanted { uint8_t status, result; uint64_t offset; };
+struct wanted { uint8_t status, result, has_checksum; uint32_t checksum; uint64_t offset; };
 
 /* A list in flight, and what it has to end with. */
 struct case_of {
     struct dsa_list *list;
     int count; /* 0 before the first */
+    int may_have_checksums;
     enum dsa_end end;
     struct wanted wanted[MOST];
     uint8_t deltas[MOST][ENTRIES * ENTRY_OF_DELTA];
 };
 
 static _Alignas(4096) uint8_t memory[SIZE], model[SIZE];
-static int wrong, ends[DSA_LIST_RUNNING + 1];
+static int wrong, checksums, ends[DSA_LIST_RUNNING + 1];
 
 static size_t draw(size_t below) { return (size_t)rand() % below; }
 
@@ -39,7 +42,38 @@ static struct wanted compared(const uint8_t *one, const uint8_t *other, size_t n
     size_t at = 0;
     while (at < n && one[at] == other[at])
         at++;
-    return at == n ? (struct wanted){1, 0, 0} : (struct wanted){is_check ? 2 : 1, 1, at};
+    return at == n ? (struct wanted){.status = 1} : (struct wanted){is_check ? 2 : 1, 1, 0, 0, at};
+}
+
+/* CRC-32C, a bit at a time, of bytes after those that `seed` is the checksum of. */
+static uint32_t checksum(const uint8_t *at, size_t n, uint32_t seed)
+{
+    uint32_t rest = ~seed;
+    for (size_t k = 0; k < 8 * n; k++)
+        rest = rest >> 1 ^ ((rest ^ at[k / 8] >> k % 8) & 1 ? UINT32_C(0x82f63b78) : 0);
+    return ~rest;
+}
+
+/* A checksum, half of them with a copy elsewhere. Its seed is given, or the checksum of an operation before. */
+static struct wanted put_checksum(struct case_of *c, int i, size_t a, size_t b, size_t n, int is_begun)
+{
+    uint8_t d[64];
+    const size_t at = a < b + n && b < a + n ? (b + PAGE) % (SIZE - SHORT) : b;
+    const int before = (int)draw((size_t)i + 1), is_copy = (int)draw(2);
+    const int goes_on = before < i && c->wanted[before].has_checksum;
+    const uint32_t seed = goes_on ? c->wanted[before].checksum : (uint32_t)draw(3);
+    const struct wanted wanted = {1, 0, 1, checksum(model + a, n, seed), 0};
+    if (is_copy)
+        dsa_put_copy_crc(d, (uintptr_t)memory + a, (uintptr_t)memory + at, n, seed, 0);
+    else
+        dsa_put_crc(d, (uintptr_t)memory + a, n, seed, 0);
+    if (goes_on)
+        dsa_seed_from(d, (uintptr_t)dsa_list_checksum(c->list, before));
+    dsa_list_add(c->list, d, n);
+    if (is_copy && is_begun)
+        memcpy(model + at, model + a, n);
+    checksums += is_begun;
+    return wanted;
 }
 
 /* A delta of a few words at increasing offsets. */
@@ -99,8 +133,12 @@ static struct wanted put_compare(struct dsa_list *list, int kind, size_t a, size
 static struct wanted put(struct case_of *c, int i, int is_begun)
 {
     struct dsa_list *list = c->list;
-    const size_t n = 1 + draw(rand() % 4 ? 256 : 3 * PAGE - 1), a = draw(SIZE - n), b = draw(SIZE - n);
-    const int kind = (int)draw(8 + MOVES);
+    const int is_short = c->may_have_checksums;
+    const size_t n = 1 + draw(is_short || rand() % 4 ? SHORT : 3 * PAGE - 1);
+    const size_t a = draw(SIZE - n), b = draw(SIZE - n);
+    const int kind = (int)draw(8 + MOVES + (is_short ? CHECKSUMS : 0));
+    if (kind >= 8 + MOVES)
+        return put_checksum(c, i, a, b, n, is_begun);
     if (kind < 4)
         return put_compare(list, kind, a, kind == 1 && rand() % 4 ? a : b, n);
     if (kind == 4)
@@ -114,7 +152,7 @@ static struct wanted put(struct case_of *c, int i, int is_begun)
         if (is_begun)
             memmove(model + b, model + a, n);
     }
-    return (struct wanted){1, 0, 0};
+    return (struct wanted){.status = 1};
 }
 
 /* Adds operations: what comes after the next barrier after a failed check is not begun, nor is what is left out. */
@@ -122,6 +160,7 @@ static void make(struct case_of *c, int is_left_out)
 {
     int is_begun = !is_left_out, is_after_barrier = 0, has_failed = 0;
     c->count = 1 + (int)draw(MOST);
+    c->may_have_checksums = draw(3) == 0;
     for (int i = 0; i < c->count; i++) {
         if (draw(6) == 0) {
             dsa_list_barrier(c->list);
@@ -131,7 +170,7 @@ static void make(struct case_of *c, int is_left_out)
         c->wanted[i] = put(c, i, is_begun);
         is_after_barrier = c->wanted[i].status == 2;
         if (!is_begun)
-            c->wanted[i] = (struct wanted){0, 0, 0};
+            c->wanted[i] = (struct wanted){.status = 0};
         has_failed |= c->wanted[i].status == 2;
     }
     c->end = is_left_out ? DSA_LIST_LEFT_OUT : has_failed ? DSA_LIST_FAILED : DSA_LIST_DONE;
@@ -147,6 +186,7 @@ static void look(const struct case_of *c, enum dsa_end end)
         const struct dsa_result r = dsa_list_result(c->list, i);
         const struct wanted *w = &c->wanted[i];
         expect(r.status == w->status && r.result == w->result && r.offset == w->offset, "a result", c->list);
+        expect(r.has_checksum == w->has_checksum && r.checksum == w->checksum, "a checksum", c->list);
         failed = w->status == 2 ? i : failed;
     }
     expect(dsa_list_failed(c->list) == failed, "the operation that failed", c->list);
@@ -205,7 +245,7 @@ int main(int argc, char **argv)
     else
         run(cases, count);
     dsa_queue_close(queue);
-    printf("%d lists, %d failed, %d left out, %d wrong\n", count, ends[DSA_LIST_FAILED], ends[DSA_LIST_LEFT_OUT],
-           wrong);
+    printf("%d lists, %d checksums, %d failed, %d left out, %d wrong\n", count, checksums, ends[DSA_LIST_FAILED],
+           ends[DSA_LIST_LEFT_OUT], wrong);
     return wrong != 0;
 }

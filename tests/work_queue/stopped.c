@@ -256,7 +256,7 @@ static uint8_t at_absent(const uint8_t *d, uint8_t *record)
     return 0;
 }
 
-/* Each operand is made present to its end, also one that is written, and no more than it. */
+/* Each operand is made present to its end, also one that is written and the seed of a checksum, and no more than it. */
 static void populated(void)
 {
     struct dsa_list *list = list_of(NULL);
@@ -274,6 +274,14 @@ static void populated(void)
     dsa_list_fill(list, written, SIZE, 0);
     ends(list, DSA_LIST_DONE);
     EXPECT(is_present(written + PAGE));
+    uint8_t d[64], *source = fresh(SIZE), *seed = fresh(SIZE);
+    dsa_put_copy_crc(d, (uintptr_t)source + 5, (uintptr_t)b, 2 * PAGE, 0, 0);
+    dsa_seed_from(d, (uintptr_t)seed + PAGE);
+    absent[0] = source + 5, absent[1] = seed + PAGE;
+    dsa_list_clear(list);
+    dsa_list_add(list, d, 2 * PAGE);
+    ends(list, DSA_LIST_DONE);
+    EXPECT(is_present(source + 2 * PAGE) && is_present(seed + PAGE) && !is_present(seed + 2 * PAGE));
 }
 
 static uint8_t *beside; /* the record of the operation that is done at once with the first */

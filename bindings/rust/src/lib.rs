@@ -545,12 +545,12 @@ pub struct LeftOut {
 /// count them.
 ///
 /// # Errors
-/// The first fault of the settings or the list, which must have no checksums; [`Cause::Records`];
-/// [`Cause::SharedRecord`] if a piece writes into the record of another, which then does not say how its own piece has
-/// ended; [`Cause::NotFailed`]; [`Cause::PassedBarrier`] if a piece has begun though another has not succeeded and a
-/// barrier is between them; [`Cause::Memory`]. Of a list with shared records give the pieces from the first entry on
-/// whose status is not 1, if only pieces of groups share them that have completed by the records of their batches; else
-/// restore the memory, and run the whole list with a record for each piece.
+/// The first fault of the settings or the list; [`Cause::Records`]; [`Cause::SharedRecord`] if a piece writes into the
+/// record of another, which then does not say how its own piece has ended; [`Cause::NotFailed`];
+/// [`Cause::PassedBarrier`] if a piece has begun though another has not succeeded and a barrier is between them;
+/// [`Cause::Memory`]. Of a list with shared records give the pieces from the first entry on whose status is not 1, if
+/// only pieces of groups share them that have completed by the records of their batches; else restore the memory, and
+/// run the whole list with a record for each piece.
 ///
 /// ```
 /// # use dsa_planner::{list_of, resume, BatchPrice, Descriptor, LeftOrder, Settings};

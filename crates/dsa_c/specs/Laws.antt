@@ -1,7 +1,9 @@
 -- Marks and plans spell each other; and what calls answer of lists without fences or checksums.
-use Rattle.std.specs.Prelude.{◌≡◌, ℕ, ◌<◌, true, List, [], ◌∷◌, All, length, Ok}
+use Rattle.std.specs.Prelude.{◌≡◌, ℕ, ◌<◌, true, List, [], ◌∷◌, All, length, map, Ok}
 use Rattle.dsa_plan.specs.Plan.{Plan, piece_count}
 use Rattle.dsa_descriptor.specs.declared.descriptor.Descriptor.{Descriptor}
+use Rattle.dsa_descriptor.specs.Descriptors.{fields}
+use Rattle.dsa_descriptor.specs.Fences.{marked_spelling}
 use Rattle.dsa_plan.specs.Certificate.{Contents}
 use Rattle.dsa_plan.specs.EmissionFaults.{IsEmission}
 use Rattle.dsa_calls.specs.Checked.{Checks}
@@ -9,14 +11,19 @@ use Rattle.dsa_calls.specs.Fenced.{HasNoFences}
 use Rattle.dsa_calls.specs.Judge.{Judges}
 use Rattle.dsa_calls.specs.Laws.{IsLeastAndShown}
 use Rattle.dsa_calls.specs.Planned.{Submission, Plans}
+use Rattle.dsa_resume.specs.Rest.{Remainder}
+use Rattle.dsa_resume.specs.Resumed.{Resumes}
 use Rattle.dsa_operations.specs.AnyLists.{IsOfDescriptors, counted}
+use Rattle.dsa_operations.specs.Resuming.{as_operations}
 use Rattle.dsa_operations.specs.Submissions.{OperationSubmission}
+use Rattle.dsa_c.specs.declared.resuming.RawResumed.{RawResumed}
 use Rattle.dsa_c.specs.declared.settings.RawSettings.{RawSettings}
 use Rattle.dsa_c.specs.Marks.{marks_of, plan_of, begins_group}
 use Rattle.dsa_c.specs.Checking.{IsCheckedCost}
 use Rattle.dsa_c.specs.Judging.{IsJudgedCost}
 use Rattle.dsa_c.specs.Planning.{IsPlannedList}
 use Rattle.dsa_c.specs.Raw.{limits_of, AreSettings}
+use Rattle.dsa_c.specs.Resuming.{IsLeftIn, order_of, resumed_of}
 
 -- the marks of a plan spell it, and there are as many marks as pieces
 pub record AreSpelt (plan : Plan) : Type 0 where
@@ -63,3 +70,11 @@ abbrev pub CheckedAsDescriptors : Type 0
 CheckedAsDescriptors = (s : RawSettings) (table portal staging : List ℕ) (c : Contents) (cost : ℕ) (plan : Plan) (ds : List Descriptor) →
     IsEmission (limits_of s table) portal staging plan ds → IsCheckedCost s table portal staging c cost →
     AreSettings s table × Checks portal staging (limits_of s table) c (Ok cost)
+
+-- what is left of a list of descriptors is what resuming it answers, and is written as a list of descriptors, with what is
+-- left out
+abbrev pub ResumedWithoutChecksums : Type 0
+ResumedWithoutChecksums = (s : RawSettings) (table list records given_up : List ℕ) (failed_first : ℕ) (bytes : List ℕ) (resumed : RawResumed) →
+    IsOfDescriptors list → IsLeftIn s table list records given_up failed_first bytes resumed →
+    (rest : Remainder Descriptor) × Resumes (limits_of s table) list records given_up (order_of failed_first) (Ok rest)
+    × (bytes ≡ marked_spelling (map fields rest.pieces) rest.barriers) × (resumed ≡ resumed_of (as_operations rest))

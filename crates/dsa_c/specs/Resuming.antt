@@ -1,14 +1,13 @@
 -- What resuming a list from C promises.
-use Rattle.std.specs.Prelude.{◌≡◌, ◌⊎◌, ℕ, ◌<◌, ◌≤◌, ◌==◌, List, Option, Some, None, length, map, Ok, Err, if◌then◌else◌}
-use Rattle.dsa_descriptor.specs.Descriptors.{fields}
-use Rattle.dsa_descriptor.specs.Fences.{marked_spelling}
+use Rattle.std.specs.Prelude.{◌≡◌, ◌⊎◌, ℕ, ◌<◌, ◌≤◌, ◌==◌, List, Option, Some, None, length, Ok, Err, if◌then◌else◌}
 use Rattle.dsa_resume.specs.declared.fault.ResumeFault.{ResumeFault}
 use Rattle.dsa_resume.specs.declared.fault.ResumeFault.TheVariants.{Plan, NotFailed, PassedBarrier, Records, SharedRecord}
 use Rattle.dsa_resume.specs.declared.left.LeftOrder.{LeftOrder}
 use Rattle.dsa_resume.specs.declared.left.LeftOrder.TheVariants.{AsListed, FailedFirst}
 use Rattle.dsa_resume.specs.declared.rest.LeftOut.{LeftOut}
 use Rattle.dsa_resume.specs.Rest.{Remainder}
-use Rattle.dsa_resume.specs.Resumed.{CanBeListedAgain, Resumes}
+use Rattle.dsa_operations.specs.declared.operation.Operation.{Operation}
+use Rattle.dsa_operations.specs.Resuming.{IsListAgain, ResumesAnyList, rest_bytes}
 use Rattle.dsa_c.specs.declared.resuming.RawResumed.{RawResumed}
 use Rattle.dsa_c.specs.declared.settings.RawSettings.{RawSettings}
 use Rattle.dsa_c.specs.declared.refusal.RawRefusal.{RawRefusal}
@@ -31,10 +30,6 @@ resume_refusal_of (PassedBarrier i j) = refusal_at 115 i j
 abbrev pub no_room_for_list : ℕ → RawRefusal
 no_room_for_list bytes = refusal_at 93 bytes 0
 
--- the bytes of what is left: a list in which the flag 0x0001 of an operation is a barrier before it
-abbrev pub rest_bytes : Remainder → List ℕ
-rest_bytes rest = marked_spelling (map fields rest.pieces) rest.barriers
-
 -- how many pieces are left out
 abbrev pub left_out_count : Option LeftOut → ℕ
 left_out_count None = 0
@@ -46,19 +41,19 @@ stopped_by None = 0
 stopped_by (Some out) = out.stopped_by
 
 -- that and the length of these bytes
-abbrev pub resumed_of : Remainder → RawResumed
+abbrev pub resumed_of : Remainder Operation → RawResumed
 resumed_of rest =
     record { rest_len = length (rest_bytes rest); left_out = left_out_count rest.left_out; stopped_by = stopped_by rest.left_out }
 
 -- this is what is left, and it can be planned with the same settings
-pub record IsLeftOf (s : RawSettings) (table list records given_up : List ℕ) (failed_first : ℕ) (rest : Remainder) : Type 0 where
+pub record IsLeftOf (s : RawSettings) (table list records given_up : List ℕ) (failed_first : ℕ) (rest : Remainder Operation) : Type 0 where
   pub settings : AreSettings s table
-  pub resumed : Resumes (limits_of s table) list records given_up (order_of failed_first) (Ok rest)
-  pub again : CanBeListedAgain (limits_of s table) rest
+  pub resumed : ResumesAnyList (limits_of s table) list records given_up (order_of failed_first) (Ok rest)
+  pub again : IsListAgain (limits_of s table) rest
 
 -- these are its bytes, and what is said of it
 pub record IsLeftIn (s : RawSettings) (table list records given_up : List ℕ) (failed_first : ℕ) (bytes : List ℕ) (resumed : RawResumed) : Type 0 where
-  pub rest : Remainder
+  pub rest : Remainder Operation
   pub left : IsLeftOf s table list records given_up failed_first rest
   pub bytes_are : bytes ≡ rest_bytes rest
   pub resumed_is : resumed ≡ resumed_of rest
@@ -73,6 +68,6 @@ pub record IsResumedInto (s : RawSettings) (table list records given_up : List �
 -- why nothing is written: resuming refuses the list; or what is left does not fit, and so many bytes are needed
 abbrev pub RefusesResume : RawSettings → List ℕ → List ℕ → List ℕ → List ℕ → ℕ → ℕ → RawRefusal → Type 0
 RefusesResume s table list records given_up failed_first room r =
-    RefusesUnder resume_refusal_of (λ l fault. Resumes l list records given_up (order_of failed_first) (Err fault)) s table r
-    ⊎ ((rest : Remainder) × IsLeftOf s table list records given_up failed_first rest × (room < length (rest_bytes rest))
+    RefusesUnder resume_refusal_of (λ l fault. ResumesAnyList l list records given_up (order_of failed_first) (Err fault)) s table r
+    ⊎ ((rest : Remainder Operation) × IsLeftOf s table list records given_up failed_first rest × (room < length (rest_bytes rest))
     × (r ≡ no_room_for_list (length (rest_bytes rest))))

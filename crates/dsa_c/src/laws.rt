@@ -1,7 +1,7 @@
 //! Laws of marks, and of lists without fences or checksums.
 
 ghost use Rattle.dsa_c.specs.Explaining.{DescriptorsSayAlike, ReasonsSayAsExplained};
-ghost use Rattle.dsa_c.specs.Laws.{CheckedAsDescriptors, CheckedWithoutChecksums, JudgedWithoutFences, MarksSpellPlans, PlannedWithoutFences, PlansSpellMarks};
+ghost use Rattle.dsa_c.specs.Laws.{CheckedAsDescriptors, CheckedWithoutChecksums, JudgedWithoutFences, MarksSpellPlans, PlannedWithoutFences, PlansSpellMarks, ResumedWithoutChecksums};
 
 /// A plan whose groups are not empty is the plan that its marks spell, and it has as many marks as pieces. This is a
 /// law: the body is empty, and the clause is what the proof shows.
@@ -31,6 +31,12 @@ pub fn judged_without_fences()
 pub fn checked_without_checksums()
     ensures there { CheckedWithoutChecksums }
     ensures back { CheckedAsDescriptors }
+{}
+
+/// What is left of a list of descriptors is what [`resume_list`](dsa_resume::resume_list()) answers, and is written as
+/// a list of descriptors, with what is left out. This is a law too.
+pub fn resumed_without_checksums()
+    ensures { ResumedWithoutChecksums }
 {}
 
 /// The sentence that [`dsa_reason_text`](crate::dsa_reason_text()) writes of a reason of

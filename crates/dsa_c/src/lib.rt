@@ -31,7 +31,7 @@ pub use filling::dsa_fill;
 pub use judging::dsa_judge;
 pub use laws::{
     checked_without_checksums, judged_without_fences, marks_spell_plans, planned_without_fences,
-    plans_spell_marks, reasons_say_as_explained,
+    plans_spell_marks, reasons_say_as_explained, resumed_without_checksums,
 };
 pub use planning::{RawPlanned, dsa_plan_list};
 pub use preparing::{RawInfo, dsa_prepare};

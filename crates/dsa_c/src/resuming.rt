@@ -2,14 +2,16 @@
 
 ghost use Rattle.std.specs.Prelude.{◌≡◌, ◌≢◌, ◌<◌, ◌≤◌, IfOk, length, MatchResult};
 ghost use Rattle.dsa_resume.specs.Rest.{remainder_of};
-ghost use Rattle.dsa_c.specs.Resuming.{IsLeftIn, IsResumedInto, RefusesResume, order_of, rest_bytes, resume_refusal_of, resumed_of};
+ghost use Rattle.dsa_operations.specs.Resuming.{rest_bytes};
+ghost use Rattle.dsa_c.specs.Resuming.{IsLeftIn, IsResumedInto, RefusesResume, order_of, resume_refusal_of, resumed_of};
 
 use crate::buffer::put;
 use crate::refusal::{RawRefusal, refusal, refusal_at};
 use crate::settings::{RawSettings, settings_of, settings_refusal};
 use dsa_calls::PlanFault;
-use dsa_descriptor::write_list;
-use dsa_resume::{LeftOrder, Rest, ResumeFault, resume_list};
+use dsa_descriptor::write_entries;
+use dsa_operations::{Operation, resume_any_list};
+use dsa_resume::{LeftOrder, Rest, ResumeFault};
 use std::alloc::{AllocError, Global};
 
 /// The number of the refusal of a buffer that is too small for the list.
@@ -74,11 +76,11 @@ fn order_of(failed_first: u32) -> LeftOrder
 }
 
 /// The bytes of what is left, with what is left out.
-fn written_rest(alloc: Global, rest: &Rest) -> Result<Left, AllocError>
+fn written_rest(alloc: Global, rest: &Rest<Operation>) -> Result<Left, AllocError>
     ensures { IfOk result (λ left. (left.bytes.items ≡ rest_bytes (remainder_of rest.now))
         × (left.resumed ≡ resumed_of (remainder_of rest.now))) }
 {
-    let bytes = write_list(alloc, &rest.list)?;
+    let bytes = write_entries(alloc, &rest.pieces, &rest.barriers)?;
     let (left_out, stopped_by) = match rest.left_out {
         Some(out) => (out.pieces as u64, out.stopped_by as u64),
         None => (0, 0),
@@ -111,7 +113,7 @@ fn left_for(
     };
     let order = order_of(stopped.failed_first);
     let (records, given_up) = (stopped.records, stopped.given_up);
-    let rest = match resume_list(alloc, stopped.list, &checked, records, given_up, order) {
+    let rest = match resume_any_list(alloc, stopped.list, &checked, records, given_up, order) {
         Ok(rest) => rest,
         Err(fault) => return Err(resume_refusal(fault)),
     };

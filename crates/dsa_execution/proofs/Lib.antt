@@ -10,3 +10,4 @@ pub mod SamplesHold
 pub mod Alike
 pub mod Planned
 pub mod SampleRun
+pub mod Resuming

@@ -6,3 +6,4 @@ pub mod Seeds
 pub mod Samples
 pub mod Alike
 pub mod Planned
+pub mod Resuming

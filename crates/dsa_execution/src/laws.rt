@@ -13,6 +13,7 @@ ghost use Rattle.dsa_execution.specs.Headline.{EveryExecutionIsInOrder, Executio
 ghost use Rattle.dsa_execution.specs.Left.{CopyIsLeft, OthersAreLeft, RecordIsLeft, ValueIsLeft};
 ghost use Rattle.dsa_execution.specs.Operations.{executed, operation_done, operation_machine, operation_status};
 ghost use Rattle.dsa_execution.specs.Planned.{PlannedCanExecute, PlannedKeepsBarriers};
+ghost use Rattle.dsa_execution.specs.Resuming.{OperationsInOrder, operation_work};
 ghost use Rattle.dsa_execution.specs.Samples.{EveryRunLeavesTheValue, TheyCanExecute, after_digits_checksum, after_digits_copy, digits_checksum, digits_copy, digits_memory, first_digits, last_digits};
 ghost use Rattle.dsa_execution.specs.Seeds.{ChainsGoOn, IsChain, last_value};
 ghost use Rattle.dsa_image.specs.Lines.{AgreeOn, ChangesOnly};
@@ -23,6 +24,7 @@ ghost use Rattle.dsa_operations.specs.Data.{checksum_reads, targets};
 ghost use Rattle.dsa_operations.specs.Fields.{ChecksumFields};
 ghost use Rattle.dsa_operations.specs.Operations.{OperationConflictAt, reads_of, writes_of};
 ghost use Rattle.dsa_operations.specs.Profile.{IsListedChecksum, RegionsApart};
+ghost use Rattle.dsa_resume.specs.Laws.{FailedFirstHasLeft, NoneGivenUp, RestLeavesWhole, ResumesInOrder};
 
 /// What a checksum leaves, address by address: its record, with the value in bytes 16 to 23; the copy; and every other
 /// byte as it was.
@@ -115,6 +117,17 @@ pub fn every_execution_goes_on()
 pub fn planned_operations_run()
     ensures can { PlannedCanExecute }
     ensures barriers { PlannedKeepsBarriers }
+{}
+
+/// Of a list of operations that has stopped, doing what is left leaves what executing the list in order leaves, under
+/// the conditions of [`resuming_leaves_whole`](dsa_resume::resuming_leaves_whole()). What those ask of the memory for
+/// the listed order they have with the failed operations first, too, if these may come first.
+pub fn resuming_operations_leaves_whole()
+    ensures in_order { ResumesInOrder operation_work }
+    ensures with_barriers { RestLeavesWhole operation_work }
+    ensures all { NoneGivenUp Operation }
+    ensures failed_first { FailedFirstHasLeft operation_work }
+    ensures leaves { OperationsInOrder }
 {}
 
 /// Operations that are all descriptors leave what these do as a list of descriptors: executed in order, and in each

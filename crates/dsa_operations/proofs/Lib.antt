@@ -13,3 +13,4 @@ pub mod Ready
 pub mod AnyLists
 pub mod Addressable
 pub mod SubmittedAlike
+pub mod Left

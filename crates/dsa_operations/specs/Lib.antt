@@ -13,3 +13,4 @@ pub mod Samples
 pub mod Submissions
 pub mod Checking
 pub mod AnyLists
+pub mod Resuming

@@ -13,6 +13,7 @@ mod pieces;
 mod places;
 mod planning;
 mod reading;
+mod resuming;
 mod submitting;
 mod tracked;
 
@@ -28,4 +29,5 @@ pub use laws::{
 pub use operation::{Operation, OperationList};
 pub use pieces::{AnyPieces, AnyPlanned, any_pieces, plan_any_pieces};
 pub use planning::search_operations;
+pub use resuming::{resume_any_list, resume_operation_list};
 pub use submitting::{PlannedOperations, plan_entries, plan_operation_list};

@@ -35,7 +35,10 @@ pub struct AnyPlanned {
 }
 
 /// Each descriptor as an operation.
-fn operations_of(alloc: Global, descriptors: &[Descriptor]) -> Result<Vec<Operation>, AllocError>
+pub(crate) fn operations_of(
+    alloc: Global,
+    descriptors: &[Descriptor],
+) -> Result<Vec<Operation>, AllocError>
     ensures { IfOk result
         (λ operations. operations.items ≡ map operation.Descriptor descriptors.now) }
 {

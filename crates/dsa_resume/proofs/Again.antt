@@ -1,7 +1,7 @@
 -- What is left of a planned list can be planned.
-use Rattle.std.proofs.Common.{◌≡◌, ◌≢◌, ◌⊎◌, inl, inr, ℕ, zero, suc, ◌+◌, ◌*◌, ◌<◌, ◌≤◌, Bool, true, false, List, [], ◌∷◌, ◌++◌, drop, length, get_or, map, Err, refl, sym, ap, ◌∙◌, subst, arith}
+use Rattle.std.proofs.Common.{◌≡◌, ◌≢◌, ◌⊎◌, inl, inr, ℕ, zero, suc, ◌+◌, ◌*◌, ◌<◌, ◌≤◌, Bool, true, false, List, [], ◌∷◌, ◌++◌, drop, length, get_or, map, refl, sym, ap, ◌∙◌, subst, arith}
 use Rattle.std.specs.Prelude.{Some, cond, replicate, slice_get, option_map}
-use Rattle.std.specs.List.{All, list_any}
+use Rattle.std.specs.List.{All, AllPairs, list_any}
 use Rattle.std.proofs.lemmas.Bool.{cases_order}
 use Rattle.std.proofs.lemmas.List.{length-append, length-drop, length-map, length-replicate}
 use Rattle.std.proofs.lemmas.Option.{same_Some, slice_get-get_or, slice_get-map, slice_get_within, get_or_from_slice_get}
@@ -9,59 +9,75 @@ use Rattle.dsa_descriptor.specs.declared.descriptor.Descriptor.{Descriptor}
 use Rattle.dsa_descriptor.specs.Descriptors.{fields}
 use Rattle.dsa_descriptor.specs.Fences.{after_first, set_marks}
 use Rattle.dsa_descriptor.specs.Fields.{Fields}
-use Rattle.dsa_descriptor.specs.Lists.{HaveOneOwner}
 use Rattle.dsa_descriptor.specs.Spans.{InSpan, span}
 use Rattle.dsa_ranges.specs.Ranges.{Touches}
 use Rattle.dsa_settings.specs.Barriers.{IsBarrier}
+use Rattle.dsa_plan.specs.Emission.{staging_span}
 use Rattle.dsa_plan.specs.Settings.{Limits}
 use Rattle.dsa_splitter.specs.Rules.{AreWhole, IsClear, IsSplit}
 use Rattle.dsa_splitter.proofs.AsTheyStand.{whole_split}
 use Rattle.dsa_splitter.proofs.OneFault.{split_no_fault}
 use Rattle.dsa_splitter.proofs.OnePiece.{whole_pieces}
-use Rattle.dsa_calls.specs.declared.fault.PlanFault.{PlanFault}
-use Rattle.dsa_calls.specs.Planned.{CanBePlanned, PlansOperations}
+use Rattle.dsa_calls.specs.Planned.{CanBePlanned}
 use Rattle.dsa_resume.specs.declared.status.Ended.{Ended}
 use Rattle.dsa_resume.specs.declared.left.LeftOrder.{LeftOrder}
 use Rattle.dsa_resume.specs.Barriers.{IsFront, NoneStops}
 use Rattle.dsa_resume.specs.Rest.{IsLeftOver, IsRest, Remainder, goes_on, is_last, left_before, stops_there}
 use Rattle.dsa_resume.specs.Resumed.{CanBePlannedAgain}
-use Rattle.dsa_resume.proofs.Places.{before_at, joined, rest_at, skipped}
+use Rattle.dsa_resume.proofs.Places.{rest_at}
 use Rattle.dsa_resume.proofs.Short.{rest_few, some_before}
 
 -- ---- what is left are pieces of the list
 
-abbrev IsIn : {X : Type 0} → List X → X → Type 0
+abbrev pub IsIn : {X : Type 0} → List X → X → Type 0
 IsIn xs x = (k : ℕ) × (slice_get xs k ≡ Some x)
 
--- the same of fields
-mapped : (ds : List Descriptor) (q : ℕ) (f : Fields) → slice_get (map fields ds) q ≡ Some f → (d : Descriptor) × (slice_get ds q ≡ Some d) × (fields d ≡ f)
-mapped [] q f there = absurd cc
-mapped (d ∷ ds) zero f there = (d, refl, same_Some (fields d) f there)
-mapped (d ∷ ds) (suc q) f there = mapped ds q f there
+pub rest_in : {P : Type 0} (order : LeftOrder) (ps : List P) (barriers : List Bool) (ends : List Ended) (front : ℕ) (rest : Remainder P) → IsRest order ps barriers ends front rest
+    → (p : P) (q : ℕ) → slice_get rest.pieces q ≡ Some p → IsIn ps p
+rest_in order ps barriers ends front rest is_rest p q there =
+    let (j, (at, _)) = rest_at order ps barriers ends front rest q p is_rest there in
+    (j, at)
+
+-- the same of what each has
+pub mapped : {P Q : Type 0} (h : P → Q) (ps : List P) (q : ℕ) (f : Q) → slice_get (map h ps) q ≡ Some f → (p : P) × (slice_get ps q ≡ Some p) × (h p ≡ f)
+mapped h [] q f there = absurd cc
+mapped h (p ∷ ps) zero f there = (p, refl, same_Some (h p) f there)
+mapped h (p ∷ ps) (suc q) f there = mapped h ps q f there
+
+pub mapped_in : {P Q : Type 0} (h : P → Q) (ps rs : List P) → ((p : P) (q : ℕ) → slice_get rs q ≡ Some p → IsIn ps p)
+    → (f : Q) (q : ℕ) → slice_get (map h rs) q ≡ Some f → IsIn (map h ps) f
+mapped_in h ps rs are f q there =
+    let (p, at_q, is) = mapped h rs q f there in
+    let (j, at) = are p q at_q in
+    (j, slice_get-map h ps j ∙ ap (option_map h) at ∙ ap Some is)
 
 -- ---- so they keep what all pieces keep
 
-all_at : (P : Fields → Type 0) (fs : List Fields) (f : Fields) → All P fs → IsIn fs f → P f
-all_at P fs f all (k, there) = subst P (get_or_from_slice_get fs k f f there) (all k f (slice_get_within fs k f there))
+pub all_in : {X : Type 0} (P : X → Type 0) (xs : List X) (x : X) → All P xs → IsIn xs x → P x
+all_in P xs x all (k, there) = subst P (get_or_from_slice_get xs k x x there) (all k x (slice_get_within xs k x there))
 
-owners : (fs : List Fields) (d e : Fields) → HaveOneOwner fs → (i j : ℕ) → i < j → slice_get fs i ≡ Some d → slice_get fs j ≡ Some e → (d.pasid ≡ e.pasid) × (d.privileged ≡ e.privileged)
-owners fs d e one i j less at_i at_j =
-    let same = one i j d less (slice_get_within fs j e at_j) in
-    let first = get_or_from_slice_get fs i d d at_i in
-    let second = get_or_from_slice_get fs j e d at_j in
-    (sym (ap (λ x. x.pasid) first) ∙ same.0 ∙ ap (λ x. x.pasid) second, sym (ap (λ x. x.privileged) first) ∙ same.1 ∙ ap (λ x. x.privileged) second)
+all_kept : {X : Type 0} (P : X → Type 0) (xs ys : List X) → All P xs → ((y : X) (q : ℕ) → slice_get ys q ≡ Some y → IsIn xs y) → All P ys
+all_kept P xs ys all are i d within = all_in P xs (get_or ys i d) all (are (get_or ys i d) i (slice_get-get_or ys i d within))
 
-same_owner : (fs : List Fields) (d e : Fields) → HaveOneOwner fs → IsIn fs d → IsIn fs e → (d.pasid ≡ e.pasid) × (d.privileged ≡ e.privileged)
-same_owner fs d e one (i, at_i) (j, at_j) =
-    elim (cases_order i j) [
-      | inl same ↦ let is : d ≡ e = same_Some d e (sym at_i ∙ ap (slice_get fs) same ∙ at_j) in (ap (λ x. x.pasid) is, ap (λ x. x.privileged) is)
-      | inr (inl less) ↦ owners fs d e one i j less at_i at_j
-      | inr (inr more) ↦ let back = owners fs e d one j i more at_j at_i in (sym back.0, sym back.1)
-    ]
+-- what holds of any two, in either order and of one with itself, holds of any two that are left
+module _ {X : Type 0} (R : X → X → Type 0) (itself : (x : X) → R x x) (back : (x y : X) → R x y → R y x) where
+  before : (xs : List X) (x y : X) → AllPairs R xs → (i j : ℕ) → i < j → slice_get xs i ≡ Some x → slice_get xs j ≡ Some y → R x y
+  before xs x y all i j less at_i at_j =
+      let same = all i j x less (slice_get_within xs j y at_j) in
+      let second : get_or xs j x ≡ y = get_or_from_slice_get xs j y x at_j in
+      subst (λ (a : X). R a y) (get_or_from_slice_get xs i x x at_i) (subst (λ (b : X). R (get_or xs i x) b) second same)
 
-one_owner : (fs gs : List Fields) → HaveOneOwner fs → ((f : Fields) (q : ℕ) → slice_get gs q ≡ Some f → IsIn fs f) → HaveOneOwner gs
-one_owner fs gs one are i j d less within =
-    same_owner fs (get_or gs i d) (get_or gs j d) one (are (get_or gs i d) i (slice_get-get_or gs i d (omega arith))) (are (get_or gs j d) j (slice_get-get_or gs j d within))
+  both : (xs : List X) (x y : X) → AllPairs R xs → IsIn xs x → IsIn xs y → R x y
+  both xs x y all (i, at_i) (j, at_j) =
+      elim (cases_order i j) [
+        | inl same ↦ let is : x ≡ y = same_Some x y (sym at_i ∙ ap (slice_get xs) same ∙ at_j) in subst (λ (b : X). R x b) is (itself x)
+        | inr (inl less) ↦ before xs x y all i j less at_i at_j
+        | inr (inr more) ↦ back y x (before xs y x all j i more at_j at_i)
+      ]
+
+  pub pairs_kept : (xs ys : List X) → AllPairs R xs → ((y : X) (q : ℕ) → slice_get ys q ≡ Some y → IsIn xs y) → AllPairs R ys
+  pairs_kept xs ys all are i j d less within =
+      both xs (get_or ys i d) (get_or ys j d) all (are (get_or ys i d) i (slice_get-get_or ys i d (omega (arith, less, within)))) (are (get_or ys j d) j (slice_get-get_or ys j d within))
 
 -- ---- its barriers
 
@@ -94,27 +110,27 @@ after_kept : (n : ℕ) (marks : List Bool) → 0 < n → slice_get marks 0 ≡ S
 after_kept zero marks some at = absurd (omega (arith, some))
 after_kept (suc n) marks some at = marks_kept (replicate n false ++ marks) (n + 0) (appended n marks 0 at)
 
-pub rest_kept : (order : LeftOrder) (ds : List Descriptor) (barriers : List Bool) (ends : List Ended) (front : ℕ) (rest : Remainder)
+pub rest_kept : {P : Type 0} (order : LeftOrder) (ds : List P) (barriers : List Bool) (ends : List Ended) (front : ℕ) (rest : Remainder P)
     → IsFront barriers ends front → length ends ≡ length ds → (NoneStops ends front → front < length ds → 0 < length (left_before order ds ends front))
     → IsRest order ds barriers ends front rest → set_marks (after_first rest.barriers) ≡ rest.barriers
-rest_kept order ds barriers ends front rest is_front count some (is_last end is) =
-    subst (λ (marks : List Bool). set_marks (after_first marks) ≡ marks) (sym (ap (λ (r : Remainder). r.barriers) is)) refl
-rest_kept order ds barriers ends front rest is_front count some (stops_there i inside stop is) =
-    subst (λ (marks : List Bool). set_marks (after_first marks) ≡ marks) (sym (ap (λ (r : Remainder). r.barriers) is)) refl
-rest_kept order ds barriers ends front rest is_front count some (goes_on inside none is) =
+rest_kept {P} order ds barriers ends front rest is_front count some (is_last end is) =
+    subst (λ (marks : List Bool). set_marks (after_first marks) ≡ marks) (sym (ap (λ (r : Remainder P). r.barriers) is)) refl
+rest_kept {P} order ds barriers ends front rest is_front count some (stops_there i inside stop is) =
+    subst (λ (marks : List Bool). set_marks (after_first marks) ≡ marks) (sym (ap (λ (r : Remainder P). r.barriers) is)) refl
+rest_kept {P} order ds barriers ends front rest is_front count some (goes_on inside none is) =
     let (i, holds) = is_front.holds (omega (arith, inside, count)) in
-    subst (λ (marks : List Bool). set_marks (after_first marks) ≡ marks) (sym (ap (λ (r : Remainder). r.barriers) is))
+    subst (λ (marks : List Bool). set_marks (after_first marks) ≡ marks) (sym (ap (λ (r : Remainder P). r.barriers) is))
     (after_kept (length (left_before order ds ends front)) (drop front barriers) (some none inside) (first_dropped barriers front holds.barrier))
 
-pub rest_count : (order : LeftOrder) (ds : List Descriptor) (barriers : List Bool) (ends : List Ended) (front : ℕ) (rest : Remainder)
+pub rest_count : {P : Type 0} (order : LeftOrder) (ds : List P) (barriers : List Bool) (ends : List Ended) (front : ℕ) (rest : Remainder P)
     → (front < length ds → length barriers ≡ length ds)
     → IsRest order ds barriers ends front rest → (rest.barriers ≡ []) ⊎ (length rest.barriers ≡ length rest.pieces)
-rest_count order ds barriers ends front rest marks (is_last end is) = inl (ap (λ (r : Remainder). r.barriers) is)
-rest_count order ds barriers ends front rest marks (stops_there i inside stop is) = inl (ap (λ (r : Remainder). r.barriers) is)
-rest_count order ds barriers ends front rest marks (goes_on inside none is) =
-    let before : List Descriptor = left_before order ds ends front in
+rest_count {P} order ds barriers ends front rest marks (is_last end is) = inl (ap (λ (r : Remainder P). r.barriers) is)
+rest_count {P} order ds barriers ends front rest marks (stops_there i inside stop is) = inl (ap (λ (r : Remainder P). r.barriers) is)
+rest_count {P} order ds barriers ends front rest marks (goes_on inside none is) =
+    let before : List P = left_before order ds ends front in
     inr
-    (ap (λ (r : Remainder). length r.barriers) is
+    (ap (λ (r : Remainder P). length r.barriers) is
     ∙ omega (
       arith,
       length-append (replicate (length before) false) (drop front barriers),
@@ -124,99 +140,60 @@ rest_count order ds barriers ends front rest marks (goes_on inside none is) =
       length-append before (drop front ds),
       length-drop front ds,
     )
-    ∙ ap (λ (r : Remainder). length r.pieces) (sym is))
-
--- ---- and it can be planned
-
-in_list : (order : LeftOrder) (ds : List Descriptor) (barriers : List Bool) (ends : List Ended) (front : ℕ) (rest : Remainder) → IsRest order ds barriers ends front rest
-    → (f : Fields) (q : ℕ) → slice_get (map fields rest.pieces) q ≡ Some f → IsIn (map fields ds) f
-in_list order ds barriers ends front rest is_rest f q there =
-    let (d, at_q, is) = mapped rest.pieces q f there in
-    let (j, (at, _)) = rest_at order ds barriers ends front rest q d is_rest at_q in
-    (j, slice_get-map fields ds j ∙ ap (option_map fields) at ∙ ap Some is)
-
-pub before_one_owner : (order : LeftOrder) (ds : List Descriptor) (ends : List Ended) (front : ℕ) → HaveOneOwner (map fields ds) → HaveOneOwner (map fields (left_before order ds ends front))
-before_one_owner order ds ends front one =
-    one_owner (map fields ds) (map fields (left_before order ds ends front)) one
-    (λ f q there.
-    let (d, at_q, is) = mapped (left_before order ds ends front) q f there in
-    let (j, (at, _)) = before_at order ds ends front d q at_q in
-    (j, slice_get-map fields ds j ∙ ap (option_map fields) at ∙ ap Some is))
-
-pub follow_one_owner : (order : LeftOrder) (ds : List Descriptor) (ends : List Ended) (front : ℕ) → HaveOneOwner (map fields ds)
-    → HaveOneOwner (map fields (left_before order ds ends front ++ drop front ds))
-follow_one_owner order ds ends front one =
-    one_owner (map fields ds) (map fields (left_before order ds ends front ++ drop front ds)) one
-    (λ f q there.
-    let (d, at_q, is) = mapped (left_before order ds ends front ++ drop front ds) q f there in
-    elim (joined (left_before order ds ends front) (drop front ds) q d at_q) [
-      | inl before ↦ let (j, (at, _)) = before_at order ds ends front d q before in (j, slice_get-map fields ds j ∙ ap (option_map fields) at ∙ ap Some is)
-      | inr (k, after) ↦ (front + k, slice_get-map fields ds (front + k) ∙ ap (option_map fields) (skipped front ds k d after) ∙ ap Some is)
-    ])
+    ∙ ap (λ (r : Remainder P). length r.pieces) (sym is))
 
 some_barrier : (barriers : List Bool) (k : ℕ) → IsBarrier barriers k → barriers ≢ []
 some_barrier [] k is none = absurd cc
 some_barrier (b ∷ bs) k is none = absurd cc
 
-pub some_marks : (ds : List Descriptor) (barriers : List Bool) (ends : List Ended) (front : ℕ) → length ends ≡ length ds → IsFront barriers ends front → (barriers ≢ [] → length barriers ≡ length ds)
-    → (before : List Descriptor) (marks : List Bool) → marks ≡ replicate (length before) false ++ drop front barriers → front < length ds → length marks ≡ length (before ++ drop front ds)
-some_marks ds barriers ends front count is_front marked before marks is inside =
-    let (i, holds) = is_front.holds (omega (arith, inside, count)) in
-    let same : length barriers ≡ length ds = marked (some_barrier barriers front holds.barrier) in
-    ap length is
-    ∙ omega (
-      arith,
-      length-append (replicate (length before) false) (drop front barriers),
-      length-replicate (length before) false,
-      length-drop front barriers,
-      same,
-      length-append before (drop front ds),
-      length-drop front ds,
-    )
+-- the barriers of what is left are those of a list: none, or one for each piece, and of these one after the first is set
+pub left_barriers : {P : Type 0} (order : LeftOrder) (ps : List P) (barriers : List Bool) (ends : List Ended) (rest : Remainder P)
+    → (barriers ≢ [] → length barriers ≡ length ps) → length ends ≡ length ps → IsLeftOver order ps barriers ends rest
+    → ((rest.barriers ≡ []) ⊎ (length rest.barriers ≡ length rest.pieces)) × (set_marks (after_first rest.barriers) ≡ rest.barriers)
+left_barriers order ps barriers ends rest marked count left = (
+  rest_count order ps barriers ends left.front rest
+      (λ inside. let (i, holds) = left.is_front.holds (omega (arith, inside, count)) in marked (some_barrier barriers left.front holds.barrier)) left.is_rest,
+  rest_kept order ps barriers ends left.front rest left.is_front count (some_before order ps barriers ends left.front left.is_front count) left.is_rest,
+)
 
-pub rest_one_owner : (order : LeftOrder) (ds : List Descriptor) (barriers : List Bool) (ends : List Ended) (front : ℕ) (rest : Remainder) → HaveOneOwner (map fields ds)
-    → IsRest order ds barriers ends front rest → HaveOneOwner (map fields rest.pieces)
-rest_one_owner order ds barriers ends front rest one is_rest = one_owner (map fields ds) (map fields rest.pieces) one (in_list order ds barriers ends front rest is_rest)
+-- ---- and it can be planned
 
-module _ (s : Limits) (order : LeftOrder) (ds : List Descriptor) (barriers : List Bool) (ends : List Ended) (front : ℕ) (rest : Remainder)
-    (can : CanBePlanned s (map fields ds)) (is_rest : IsRest order ds barriers ends front rest) where
-  are_in : (f : Fields) (q : ℕ) → slice_get (map fields rest.pieces) q ≡ Some f → IsIn (map fields ds) f
-  are_in = in_list order ds barriers ends front rest is_rest
+-- fewer pieces of those that can be planned can be planned
+fewer_can : (s : Limits) (fs gs : List Fields) → CanBePlanned s fs → length gs ≤ length fs → ((g : Fields) (q : ℕ) → slice_get gs q ≡ Some g → IsIn fs g) → CanBePlanned s gs
+fewer_can s fs gs can fewer are = record {
+  few = omega (arith, can.few, fewer);
+  one_owner = pairs_kept (λ (d e : Fields). (d.pasid ≡ e.pasid) × (d.privileged ≡ e.privileged)) (λ d. (refl, refl)) (λ d e (p, q). (sym p, sym q)) fs gs can.one_owner are;
+  short = all_kept (λ (d : Fields). d.size ≤ s.greatest_transfer) fs gs can.short are;
+  clear = λ i d within address (first, last) touches.
+      all_kept (λ (e : Fields). (a : ℕ) → InSpan (staging_span s fs) a → ¬ Touches e a) fs gs can.clear are i d within address (first, omega (arith, last, fewer)) touches;
+}
 
-  are_whole : AreWhole rest.pieces s.greatest_transfer
-  are_whole i d there =
-      all_at (λ e. e.size ≤ s.greatest_transfer) (map fields ds) (fields d) can.short
-      (are_in (fields d) i (slice_get-map fields rest.pieces i ∙ ap (option_map fields) there))
+-- pieces that can be planned are their own pieces, and planning refuses them for no cause
+pub can_again : (s : Limits) (rest : Remainder Descriptor) → CanBePlanned s (map fields rest.pieces) → (rest.barriers ≡ []) ⊎ (length rest.barriers ≡ length rest.pieces)
+    → set_marks (after_first rest.barriers) ≡ rest.barriers → CanBePlannedAgain s rest
+can_again s rest can count kept =
+    let fs : List Fields = map fields rest.pieces in
+    let whole : AreWhole rest.pieces s.greatest_transfer =
+    λ i d there. all_in (λ (e : Fields). e.size ≤ s.greatest_transfer) fs (fields d) can.short (i, slice_get-map fields rest.pieces i ∙ ap (option_map fields) there) in
+    let clear : IsClear (span s.staging (96 * length rest.pieces)) fs =
+    λ q f there (address, (first, last), touches).
+    all_in (λ (e : Fields). (a : ℕ) → InSpan (staging_span s fs) a → ¬ Touches e a) fs f can.clear (q, there) address (first, omega (arith, last, length-map rest.pieces fields)) touches in
+    let split : IsSplit s.greatest_transfer s.staging fs = whole_split rest.pieces s.greatest_transfer s.staging whole (omega (arith, can.few, length-map rest.pieces fields)) clear in
+    record {
+      one_owner = can.one_owner;
+      count = count;
+      kept = kept;
+      whole = whole;
+      split = split;
+      own = sym (whole_pieces rest.pieces s.greatest_transfer whole);
+      accepted = λ fault (cause, other, first, is). other (split_no_fault s.greatest_transfer s.staging fs cause split first);
+    }
 
-  fewer : length rest.pieces ≤ length ds
-  fewer = rest_few order ds barriers ends front rest is_rest
-
-  are_clear : IsClear (span s.staging (96 * length rest.pieces)) (map fields rest.pieces)
-  are_clear q f there (address, inside, touches) =
-      all_at (λ e. (a : ℕ) → InSpan (span s.staging (96 * length (map fields ds))) a → ¬ Touches e a) (map fields ds) f can.clear (are_in f q there) address
-      (inside.0, omega (arith, inside.1, fewer, length-map ds fields)) touches
-
-  is_split : IsSplit s.greatest_transfer s.staging (map fields rest.pieces)
-  is_split = whole_split rest.pieces s.greatest_transfer s.staging are_whole (omega (arith, can.few, fewer, length-map ds fields)) are_clear
-
-  refuses_none : (fault : PlanFault) → PlansOperations s (map fields rest.pieces) (Err fault) → ⊥
-  refuses_none fault (cause, other, first, is) = other (split_no_fault s.greatest_transfer s.staging (map fields rest.pieces) cause is_split first)
-
-  pub rest_can_be_planned : (rest.barriers ≡ []) ⊎ (length rest.barriers ≡ length rest.pieces) → set_marks (after_first rest.barriers) ≡ rest.barriers → CanBePlannedAgain s rest
-  rest_can_be_planned count kept = record {
-    one_owner = rest_one_owner order ds barriers ends front rest can.one_owner is_rest;
-    count = count;
-    kept = kept;
-    whole = are_whole;
-    split = is_split;
-    own = sym (whole_pieces rest.pieces s.greatest_transfer are_whole);
-    accepted = λ fault plans. refuses_none fault plans;
-  }
-
-pub left_again : (s : Limits) (order : LeftOrder) (ds : List Descriptor) (barriers : List Bool) (ends : List Ended) (rest : Remainder) → CanBePlanned s (map fields ds)
+pub left_again : (s : Limits) (order : LeftOrder) (ds : List Descriptor) (barriers : List Bool) (ends : List Ended) (rest : Remainder Descriptor) → CanBePlanned s (map fields ds)
     → (barriers ≢ [] → length barriers ≡ length ds) → length ends ≡ length ds → IsLeftOver order ds barriers ends rest → CanBePlannedAgain s rest
 left_again s order ds barriers ends rest can marked count left =
-    rest_can_be_planned s order ds barriers ends left.front rest can left.is_rest
-    (rest_count order ds barriers ends left.front rest
-    (λ inside. let (i, holds) = left.is_front.holds (omega (arith, inside, count)) in marked (some_barrier barriers left.front holds.barrier)) left.is_rest)
-    (rest_kept order ds barriers ends left.front rest left.is_front count (some_before order ds barriers ends left.front left.is_front count) left.is_rest)
+    let (counted, kept) = left_barriers order ds barriers ends rest marked count left in
+    let fewer : length rest.pieces ≤ length ds = rest_few order ds barriers ends left.front rest left.is_rest in
+    can_again s rest
+    (fewer_can s (map fields ds) (map fields rest.pieces) can (omega (arith, fewer, length-map ds fields, length-map rest.pieces fields))
+    (mapped_in fields ds rest.pieces (rest_in order ds barriers ends left.front rest left.is_rest))) counted kept

@@ -1,7 +1,9 @@
+pub mod Working
 pub mod Fine
 pub mod Redone
 pub mod Parting
 pub mod FirstFailed
+pub mod Descriptors
 pub mod Plans
 pub mod Sharing
 pub mod Storing

@@ -3,7 +3,6 @@ use Rattle.std.proofs.Common.{◌≡◌, ◌⊎◌, inl, inr, ℕ, zero, suc, �
 use Rattle.std.specs.Prelude.{Some, slice_get}
 use Rattle.std.proofs.lemmas.Bool.{cases_lt}
 use Rattle.std.proofs.lemmas.Option.{slice_get_within}
-use Rattle.dsa_descriptor.specs.declared.descriptor.Descriptor.{Descriptor}
 use Rattle.dsa_resume.specs.declared.status.Ended.{Ended}
 use Rattle.dsa_resume.specs.declared.status.Ended.TheVariants.{Waiting, Finished, Unexpected, Failed, GivenUp}
 use Rattle.dsa_resume.specs.declared.left.LeftOrder.{LeftOrder}
@@ -80,10 +79,10 @@ left_at FailedFirst ys rs x i there =
 -- ---- what is left of a list with barriers
 
 -- a piece before the front that is left, or one after it, which no piece before it stops
-abbrev pub IsPlaced : List Descriptor → List Ended → ℕ → Descriptor → ℕ → Type 0
+abbrev pub IsPlaced : {P : Type 0} → List P → List Ended → ℕ → P → ℕ → Type 0
 IsPlaced ds ends front d j = (slice_get ds j ≡ Some d) × (((j < front) × HasEnded is_left ends j) ⊎ ((front ≤ j) × (front < length ds) × NoneStops ends front))
 
-pub before_at : (order : LeftOrder) (ds : List Descriptor) (ends : List Ended) (front : ℕ) (d : Descriptor) (t : ℕ)
+pub before_at : {P : Type 0} (order : LeftOrder) (ds : List P) (ends : List Ended) (front : ℕ) (d : P) (t : ℕ)
     → slice_get (left_before order ds ends front) t ≡ Some d → (j : ℕ) × IsPlaced ds ends front d j
 before_at order ds ends front d t there =
     let (j, at, (e, at_e, is)) = left_at order (take front ds) (take front ends) d t there in
@@ -91,14 +90,14 @@ before_at order ds ends front d t there =
     let (_, ended) = taken front ends j e at_e in
     (j, (here, inl (less, (e, ended, is))))
 
-pub rest_at : (order : LeftOrder) (ds : List Descriptor) (barriers : List Bool) (ends : List Ended) (front : ℕ) (rest : Remainder) (t : ℕ) (d : Descriptor)
+pub rest_at : {P : Type 0} (order : LeftOrder) (ds : List P) (barriers : List Bool) (ends : List Ended) (front : ℕ) (rest : Remainder P) (t : ℕ) (d : P)
     → IsRest order ds barriers ends front rest → slice_get rest.pieces t ≡ Some d → (j : ℕ) × IsPlaced ds ends front d j
-rest_at order ds barriers ends front rest t d (is_last end is) there =
-    before_at order ds ends front d t (sym (ap (λ (r : Remainder). slice_get r.pieces t) is) ∙ there)
-rest_at order ds barriers ends front rest t d (stops_there i inside stop is) there =
-    before_at order ds ends front d t (sym (ap (λ (r : Remainder). slice_get r.pieces t) is) ∙ there)
-rest_at order ds barriers ends front rest t d (goes_on inside none is) there =
-    elim (joined (left_before order ds ends front) (drop front ds) t d (sym (ap (λ (r : Remainder). slice_get r.pieces t) is) ∙ there)) [
+rest_at {P} order ds barriers ends front rest t d (is_last end is) there =
+    before_at order ds ends front d t (sym (ap (λ (r : Remainder P). slice_get r.pieces t) is) ∙ there)
+rest_at {P} order ds barriers ends front rest t d (stops_there i inside stop is) there =
+    before_at order ds ends front d t (sym (ap (λ (r : Remainder P). slice_get r.pieces t) is) ∙ there)
+rest_at {P} order ds barriers ends front rest t d (goes_on inside none is) there =
+    elim (joined (left_before order ds ends front) (drop front ds) t d (sym (ap (λ (r : Remainder P). slice_get r.pieces t) is) ∙ there)) [
       | inl before ↦ before_at order ds ends front d t before
       | inr (k, after) ↦ (front + k, (skipped front ds k d after, inr (omega arith, inside, none)))
     ]
@@ -151,8 +150,8 @@ some_end [] j less = absurd (omega (arith, less))
 some_end (e ∷ es) zero less = (e, refl)
 some_end (e ∷ es) (suc j) less = some_end es j (omega (arith, less))
 
-pub left_is_reached : LeftIsReached
-left_is_reached order ds barriers ends rest t d left count there =
+pub left_is_reached : (P : Type 0) → LeftIsReached P
+left_is_reached P order ds barriers ends rest t d left count there =
     let (j, (at, place)) = rest_at order ds barriers ends left.front rest t d left.is_rest there in
     elim place [
       | inl (less, ended) ↦ (j, at, ended, reached_before barriers ends left.front left.none_passed left.is_front j less)

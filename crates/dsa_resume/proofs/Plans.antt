@@ -1,8 +1,8 @@
 -- What a legal plan says of the pieces of a list whose submission stopped.
 use Rattle.std.proofs.Common.{◌≡◌, ◌<◌, ℕ, Bool, true, List, length, refl, arith}
 use Rattle.std.proofs.lemmas.Option.{slice_get_within}
-use Rattle.dsa_descriptor.specs.Fields.{Fields}
-use Rattle.dsa_ranges.specs.Ranges.{ConflictAt}
+use Rattle.dsa_descriptor.specs.declared.span.Span.{Span}
+use Rattle.dsa_ranges.specs.Pieces.{ConflictAsTouched}
 use Rattle.dsa_settings.specs.Epochs.{epoch_of}
 use Rattle.dsa_settings.specs.Legal.{IsLegal}
 use Rattle.dsa_settings.specs.Plan.{Plan}
@@ -35,20 +35,23 @@ waiting_left Failed h = refl
 waiting_left GivenUp h = h
 
 -- pieces that have begun may come before those that are left
-may_come : (first second : Ended → Bool) → ((e : Ended) → first e ≡ true → has_begun e ≡ true) → ((e : Ended) → second e ≡ true → is_left e ≡ true)
-    → (greatest_batch : ℕ) (pieces : List Fields) (plan : Plan) (ends : List Ended) → IsLegal (ConflictAt pieces) greatest_batch (length pieces) plan
-    → StopsAtAnEpoch is_left plan ends → MayComeFirst first second pieces ends
-may_come first second begun left greatest_batch pieces plan ends legal stops i j less (r, at, is) (q, at_later, was) conflict =
-    let (d, e, place, there, meets) = conflict in
+may_come : {P : Type 0} (conflict : List P → ℕ → ℕ → Type 0) (first second : Ended → Bool) → ((e : Ended) → first e ≡ true → has_begun e ≡ true) → ((e : Ended) → second e ≡ true → is_left e ≡ true)
+    → (greatest_batch : ℕ) (ps : List P) (plan : Plan) (ends : List Ended) → ((i j : ℕ) → conflict ps i j → j < length ps) → IsLegal (conflict ps) greatest_batch (length ps) plan
+    → StopsAtAnEpoch is_left plan ends → MayComeFirst first second (conflict ps) ends
+may_come conflict first second begun left greatest_batch ps plan ends inside legal stops i j less (r, at, is) (q, at_later, was) meets =
     let same : epoch_of plan i ≡ epoch_of plan j = stops i j less (r, at, left _ is) (q, at_later, begun _ was) in
-    let apart : epoch_of plan i < epoch_of plan j = legal_parts (ConflictAt pieces) greatest_batch (length pieces) plan i j legal less (slice_get_within pieces j e there) conflict in
+    let apart : epoch_of plan i < epoch_of plan j = legal_parts (conflict ps) greatest_batch (length ps) plan i j legal less (inside i j meets) meets in
     omega (arith, same, apart)
 
-pub plans_resume : LegalPlansResume
-plans_resume greatest_batch pieces plan ends legal stops = (
-  may_come has_finished is_left finished_begun (λ e h. h) greatest_batch pieces plan ends legal stops,
-  may_come has_failed is_waiting failed_begun waiting_left greatest_batch pieces plan ends legal stops,
-)
+module _ {P : Type 0} (reads writes : P → List Span) (conflict : List P → ℕ → ℕ → Type 0) (touched : ConflictAsTouched reads writes conflict) where
+  within : (ps : List P) (i j : ℕ) → conflict ps i j → j < length ps
+  within ps i j meets = let (p, q, at_i, at_j, spans) = (touched ps i j).0 meets in slice_get_within ps j q at_j
+
+  pub plans_resume : LegalPlansResume conflict
+  plans_resume greatest_batch ps plan ends legal stops = (
+    may_come conflict has_finished is_left finished_begun (λ e h. h) greatest_batch ps plan ends (within ps) legal stops,
+    may_come conflict has_failed is_waiting failed_begun waiting_left greatest_batch ps plan ends (within ps) legal stops,
+  )
 
 left_open : (e : Ended) → is_left e ≡ true → is_open e ≡ true
 left_open Waiting h = refl
@@ -57,15 +60,16 @@ left_open Unexpected h = refl
 left_open Failed h = refl
 left_open GivenUp h = refl
 
-pub barriers_hold : BarriersHold
-barriers_hold greatest_batch pieces barriers plan ends legal count stops =
-    let plain : IsLegal (ConflictAt pieces) greatest_batch (length pieces) plan = ((legal_is_kept (ConflictAt pieces) barriers greatest_batch (length pieces) plan).0 legal).0 in
-    let left_stops : StopsAtAnEpoch is_left plan ends = λ i j less (e, at, is) begun. stops i j less (e, at, left_open e is) begun in (
-      λ i j (k, holds, from, (e, at, begun)).
-          let before : i < j = omega (arith, holds.before, from) in
-          let inside : j < length pieces = omega (arith, slice_get_within ends j e at, count) in
-          let same : epoch_of plan i ≡ epoch_of plan j = stops i j before holds.is_open (e, at, begun) in
-          let apart : epoch_of plan i < epoch_of plan j = barriers_part (ConflictAt pieces) barriers greatest_batch (length pieces) plan k i j legal holds.barrier holds.before from inside in
-          omega (arith, same, apart),
-      plans_resume greatest_batch pieces plan ends plain left_stops,
-    )
+module _ {P : Type 0} (reads writes : P → List Span) (conflict : List P → ℕ → ℕ → Type 0) (touched : ConflictAsTouched reads writes conflict) where
+  pub barriers_hold : BarriersHold conflict
+  barriers_hold greatest_batch ps barriers plan ends legal count stops =
+      let plain : IsLegal (conflict ps) greatest_batch (length ps) plan = ((legal_is_kept (conflict ps) barriers greatest_batch (length ps) plan).0 legal).0 in
+      let left_stops : StopsAtAnEpoch is_left plan ends = λ i j less (e, at, is) begun. stops i j less (e, at, left_open e is) begun in (
+        λ i j (k, holds, from, (e, at, begun)).
+            let before : i < j = omega (arith, holds.before, from) in
+            let inside : j < length ps = omega (arith, slice_get_within ends j e at, count) in
+            let same : epoch_of plan i ≡ epoch_of plan j = stops i j before holds.is_open (e, at, begun) in
+            let apart : epoch_of plan i < epoch_of plan j = barriers_part (conflict ps) barriers greatest_batch (length ps) plan k i j legal holds.barrier holds.before from inside in
+            omega (arith, same, apart),
+        plans_resume reads writes conflict touched greatest_batch ps plan ends plain left_stops,
+      )

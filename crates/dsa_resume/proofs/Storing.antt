@@ -2,11 +2,9 @@
 use Rattle.std.proofs.Common.{◌≡◌, inl, inr, ℕ, Bool, true, false, List, [], ◌∷◌, Some, slice_get, refl, sym, subst}
 use Rattle.std.specs.Prelude.{◌==◌, if◌then◌else◌}
 use Rattle.std.proofs.lemmas.Bool.{cases_order, eqb-false, eqb-true}
-use Rattle.dsa_descriptor.specs.Data.{record_span}
-use Rattle.dsa_descriptor.specs.Fields.{Fields}
-use Rattle.dsa_descriptor.specs.Spans.{InSpan}
-use Rattle.dsa_ranges.specs.Ranges.{Writes, written_spans}
-use Rattle.dsa_resume.specs.Shared.{NoneShare}
+use Rattle.dsa_descriptor.specs.declared.span.Span.{Span}
+use Rattle.dsa_descriptor.specs.Spans.{InSome, InSpan}
+use Rattle.dsa_resume.specs.Shared.{NoneShare, first_of}
 use Rattle.dsa_resume.specs.Stores.{RecordsAreTheirOwn, Store, byte_after, stores_for}
 
 -- one more store, for this piece or not, at this address or not
@@ -17,20 +15,20 @@ one_more false true i a byte s ss eo eh other so_far = absurd (other refl refl)
 one_more false false i a byte s ss eo eh other so_far = rw (eo, eh) (so_far byte)
 
 -- a store for another piece into the record of this one
-module _ (pieces : List Fields) (none : NoneShare written_spans pieces) (i j a : ℕ) (d e : Fields) (at_i : slice_get pieces i ≡ Some d) (at_j : slice_get pieces j ≡ Some e) where
-  no_other : (i ≡ j → ⊥) → Writes e a → InSpan (record_span d.record_at) a → ⊥
-  no_other apart writes inside =
+module _ {P : Type 0} (writes : P → List Span) (pieces : List P) (none : NoneShare writes pieces) (i j a : ℕ) (d e : P) (at_i : slice_get pieces i ≡ Some d) (at_j : slice_get pieces j ≡ Some e) where
+  no_other : (i ≡ j → ⊥) → InSome (writes e) a → InSpan (first_of (writes d)) a → ⊥
+  no_other apart stored inside =
       elim (cases_order i j) [
         | inl same ↦ apart same
-        | inr (inl less) ↦ none i j less (d, e, at_i, at_j, inr (a, writes, inside))
-        | inr (inr more) ↦ none j i more (e, d, at_j, at_i, inl (a, writes, inside))
+        | inr (inl less) ↦ none i j less (d, e, at_i, at_j, inr (a, stored, inside))
+        | inr (inr more) ↦ none j i more (e, d, at_j, at_i, inl (a, stored, inside))
       ]
 
-pub records_are_their_own : RecordsAreTheirOwn
-records_are_their_own pieces [] none are i d a byte at_i inside = refl
-records_are_their_own pieces (s ∷ ss) none ((e, at_j, writes), are) i d a byte at_i inside =
+pub records_are_their_own : {P : Type 0} (writes : P → List Span) → RecordsAreTheirOwn writes
+records_are_their_own writes pieces [] none are i d a byte at_i inside = refl
+records_are_their_own writes pieces (s ∷ ss) none ((e, at_j, stored), are) i d a byte at_i inside =
     one_more (s.piece == i) (s.address == a) i a byte s ss refl refl
     (λ other hits.
-    no_other pieces none i s.piece a d e at_i at_j (λ same. eqb-false s.piece i other (sym same))
-    (subst (λ (x : ℕ). Writes e x) (eqb-true s.address a hits) writes) inside)
-    (λ b. records_are_their_own pieces ss none are i d a b at_i inside)
+    no_other writes pieces none i s.piece a d e at_i at_j (λ same. eqb-false s.piece i other (sym same))
+    (subst (λ (x : ℕ). InSome (writes e) x) (eqb-true s.address a hits) stored) inside)
+    (λ b. records_are_their_own writes pieces ss none are i d a b at_i inside)

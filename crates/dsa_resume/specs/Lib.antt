@@ -5,6 +5,7 @@ pub mod GivenUp
 pub mod Rest
 pub mod Shared
 pub mod Stores
+pub mod Work
 pub mod Causes
 pub mod Resumed
 pub mod Laws

@@ -1,10 +1,10 @@
 //! What is left of a list of pieces.
 
-ghost use Rattle.std.specs.Prelude.{◌≡◌, ◌++◌, IfOk, OnOk, length, map};
+ghost use Rattle.std.specs.Prelude.{◌≡◌, ◌++◌, IfOk, OnOk, length};
 ghost use Rattle.dsa_resume.specs.Left.{is_in, left_of, those};
 
 use crate::status::Ended;
-use dsa_descriptor::Descriptor;
+use dsa_ranges::Piece;
 use std::alloc::{AllocError, Global};
 
 /// In which order what is left is submitted.
@@ -49,12 +49,12 @@ impl Part {
 ///
 /// # Errors
 /// An allocation failed.
-pub(crate) fn left_pieces(
+pub(crate) fn left_pieces<P: Piece>(
     alloc: Global,
-    pieces: &[Descriptor],
+    pieces: &[P],
     ends: &[Ended],
     order: LeftOrder,
-) -> Result<Vec<Descriptor>, AllocError>
+) -> Result<Vec<P>, AllocError>
     requires { length ends.now ≡ length pieces.now }
     ensures { IfOk result (λ rest. rest.items ≡ left_of order pieces.now ends.now) }
 {
@@ -70,9 +70,9 @@ pub(crate) fn left_pieces(
 }
 
 // Adds the pieces of the part.
-fn add(
-    rest: &mut Vec<Descriptor>,
-    pieces: &[Descriptor],
+fn add<P: Piece>(
+    rest: &mut Vec<P>,
+    pieces: &[P],
     ends: &[Ended],
     part: Part,
 ) -> Result<(), AllocError>

@@ -1,14 +1,13 @@
 //! What is left of a stopped list.
 
-ghost use Rattle.std.specs.Prelude.{◌≡◌, ◌<◌, ◌++◌, IfOk, drop, false, length, map, replicate};
-ghost use Rattle.dsa_descriptor.specs.Descriptors.{fields};
-ghost use Rattle.dsa_resume.specs.Barriers.{IsFront, NonePassed};
-ghost use Rattle.dsa_resume.specs.Rest.{IsRest, left_before, remainder_of};
+ghost use Rattle.std.specs.Prelude.{◌≡◌, ◌++◌, IfOk, drop, false, length, replicate};
+ghost use Rattle.dsa_resume.specs.Barriers.{IsFront};
+ghost use Rattle.dsa_resume.specs.Rest.{IsRest, remainder_of};
 
 use crate::barriers::first_stop;
 use crate::left::{LeftOrder, left_pieces};
 use crate::status::Ended;
-use dsa_descriptor::DescriptorList;
+use dsa_ranges::Piece;
 use std::alloc::{AllocError, Global};
 
 /// The pieces after a barrier that may not be done any more.
@@ -23,9 +22,11 @@ pub struct LeftOut {
 
 /// What is left of a list.
 #[derive(Drop)]
-pub struct Rest {
-    /// The pieces that may be done, with their barriers.
-    pub list: DescriptorList,
+pub struct Rest<P: Piece> {
+    /// The pieces that may be done.
+    pub pieces: Vec<P>,
+    /// For each whether it begins after a barrier; empty if none does.
+    pub barriers: Vec<bool>,
     /// Those that may not, if there are some.
     pub left_out: Option<LeftOut>,
 }
@@ -48,43 +49,36 @@ fn barriers_after(
 }
 
 /// What is left of pieces that have ended so, if so many are before the first barrier that holds.
-pub(crate) fn rest_of(
+pub(crate) fn rest_of<P: Piece>(
     alloc: Global,
-    pieces: &DescriptorList,
+    pieces: &[P],
+    barriers: &[bool],
     ends: &[Ended],
     front: usize,
     order: LeftOrder,
-) -> Result<Rest, AllocError>
-    requires count { length ends.now ≡ length pieces.now.descriptors.items }
-    requires front { IsFront pieces.now.barriers.items ends.now front }
-    ensures { IfOk result (λ rest. IsRest order pieces.now.descriptors.items
-        pieces.now.barriers.items ends.now front (remainder_of rest)) }
+) -> Result<Rest<P>, AllocError>
+    requires count { length ends.now ≡ length pieces.now }
+    requires front { IsFront barriers.now ends.now front }
+    ensures { IfOk result (λ rest. IsRest order pieces.now barriers.now ends.now front
+        (remainder_of rest)) }
 {
-    let (before, after) = pieces.descriptors.split_at(front);
-    let mut descriptors = left_pieces(alloc, before, &ends[..front], order)?;
+    let (before, after) = pieces.split_at(front);
+    let mut rest = Rest {
+        pieces: left_pieces(alloc, before, &ends[..front], order)?,
+        barriers: Vec::new(alloc),
+        left_out: None,
+    };
     if after.is_empty() {
-        let list = DescriptorList::without_barriers(alloc, descriptors);
-        return Ok(Rest {
-            list,
-            left_out: None,
-        });
+        return Ok(rest);
     }
     if let Some(stopped_by) = first_stop(ends, front) {
-        let list = DescriptorList::without_barriers(alloc, descriptors);
-        let left_out = Some(LeftOut {
+        rest.left_out = Some(LeftOut {
             pieces: after.len(),
             stopped_by,
         });
-        return Ok(Rest { list, left_out });
+        return Ok(rest);
     }
-    let barriers = barriers_after(alloc, descriptors.len(), &pieces.barriers, front)?;
-    descriptors.extend_from_slice(after)?;
-    let list = DescriptorList {
-        descriptors,
-        barriers,
-    };
-    Ok(Rest {
-        list,
-        left_out: None,
-    })
+    rest.barriers = barriers_after(alloc, rest.pieces.len(), barriers, front)?;
+    rest.pieces.extend_from_slice(after)?;
+    Ok(rest)
 }

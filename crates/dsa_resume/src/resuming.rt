@@ -1,9 +1,9 @@
 //! What is left of a list that was submitted and has stopped.
 
-ghost use Rattle.std.specs.Prelude.{◌≡◌, ◌⊎◌, ℕ, IfOk, MatchResult, length, map};
+ghost use Rattle.std.specs.Prelude.{◌≡◌, ◌≢◌, ◌≤◌, ◌⊎◌, [], ℕ, IfOk, MatchResult, length, map};
 ghost use Rattle.dsa_descriptor.specs.Descriptors.{fields};
+ghost use Rattle.dsa_descriptor.specs.Pieces.{most_pieces};
 ghost use Rattle.dsa_calls.specs.declared.fault.PlanFault.TheVariants.{Memory};
-ghost use Rattle.dsa_calls.specs.Planned.{CanBePlanned};
 ghost use Rattle.dsa_resume.specs.declared.fault.ResumeFault.TheVariants.{PassedBarrier, Plan};
 ghost use Rattle.dsa_resume.specs.Barriers.{IsFirstPassed};
 ghost use Rattle.dsa_resume.specs.Ended.{ends_of};
@@ -17,7 +17,8 @@ use crate::left::LeftOrder;
 use crate::rest::{Rest, rest_of};
 use crate::shared::first_shared;
 use dsa_calls::{PlanFault, fenced_pieces};
-use dsa_descriptor::DescriptorList;
+use dsa_descriptor::{Descriptor, DescriptorList};
+use dsa_ranges::Piece;
 use dsa_settings::Settings;
 use dsa_splitter::split;
 use std::alloc::Global;
@@ -42,7 +43,7 @@ pub fn resume_list(
     records: &[u8],
     given_up: &[u8],
     order: LeftOrder,
-) -> Result<Rest, ResumeFault>
+) -> Result<Rest<Descriptor>, ResumeFault>
     ensures answer { IsAnswer
         (Resumes settings.now list.now records.now given_up.now order) result }
     ensures again { IfOk result (λ rest. CanBePlannedAgain settings.now (remainder_of rest)) }
@@ -51,7 +52,8 @@ pub fn resume_list(
         Ok(pieces) => pieces,
         Err(fault) => return Err(ResumeFault::Plan(fault)),
     };
-    resume_pieces(alloc, &pieces, settings, records, given_up, order)
+    let (descriptors, barriers) = (&pieces.descriptors, &pieces.barriers);
+    resume_pieces(alloc, descriptors, barriers, records, given_up, order)
 }
 
 /// The same for operations and their barriers: for callers that have read a list already.
@@ -65,7 +67,7 @@ pub fn resume_operations(
     records: &[u8],
     given_up: &[u8],
     order: LeftOrder,
-) -> Result<Rest, ResumeFault>
+) -> Result<Rest<Descriptor>, ResumeFault>
     ensures answer { IsAnswer (ResumesOperations settings.now
         (map fields operations.now.descriptors.items) operations.now.barriers.items
         records.now given_up.now order) result }
@@ -75,31 +77,39 @@ pub fn resume_operations(
         Ok(pieces) => pieces,
         Err(fault) => return Err(ResumeFault::Plan(PlanFault::from(fault))),
     };
-    resume_pieces(alloc, &pieces, settings, records, given_up, order)
+    let (descriptors, barriers) = (&pieces.descriptors, &pieces.barriers);
+    resume_pieces(alloc, descriptors, barriers, records, given_up, order)
 }
 
-// What is left of pieces that can be planned.
-fn resume_pieces(
+/// What is left of pieces of any kind with these barriers, as [`resume_list`] finds it of those of a list: for callers
+/// who know the pieces that were planned. There may be at most 65,536 pieces, and there is a barrier's mark for each or
+/// for none.
+///
+/// # Errors
+/// [`ResumeFault::Records`]; else [`ResumeFault::SharedRecord`]; else [`ResumeFault::NotFailed`]; else
+/// [`ResumeFault::PassedBarrier`], each as [`resume_list`] reports it; [`PlanFault::Memory`] at the first allocation
+/// that fails.
+pub fn resume_pieces<P: Piece>(
     alloc: Global,
-    pieces: &DescriptorList,
-    settings: &Settings,
+    pieces: &[P],
+    barriers: &[bool],
     records: &[u8],
     given_up: &[u8],
     order: LeftOrder,
-) -> Result<Rest, ResumeFault>
-    requires { CanBePlanned settings.now (map fields pieces.now.descriptors.items) }
-    ensures answer { IsAnswer (ResumesPieces order (record {
-      pieces = pieces.now.descriptors.items;
-      barriers = pieces.now.barriers.items;
+) -> Result<Rest<P>, ResumeFault>
+    requires few { length pieces.now ≤ most_pieces }
+    requires marked { barriers.now ≢ [] → length barriers.now ≡ length pieces.now }
+    ensures { IsAnswer (ResumesPieces P.writes order (record {
+      pieces = pieces.now;
+      barriers = barriers.now;
       records = records.now;
       given_up = given_up.now;
     })) result }
-    ensures again { IfOk result (λ rest. CanBePlannedAgain settings.now (remainder_of rest)) }
 {
-    if records.len() != 32 * pieces.descriptors.len() {
+    if records.len() != 32 * pieces.len() {
         return Err(ResumeFault::Records);
     }
-    match first_shared(alloc, &pieces.descriptors) {
+    match first_shared(alloc, pieces) {
         Ok(Some((i, j))) => return Err(ResumeFault::SharedRecord(i, j)),
         Ok(None) => {}
         Err(_) => return Err(ResumeFault::Plan(PlanFault::Memory)),
@@ -108,33 +118,34 @@ fn resume_pieces(
     if let Some(i) = first_idle(completions, given_up) {
         return Err(ResumeFault::NotFailed(i));
     }
-    left_over(alloc, pieces, completions, given_up, order)
+    left_over(alloc, pieces, barriers, completions, given_up, order)
 }
 
 // What is left of pieces whose records say how they have ended.
-fn left_over(
+fn left_over<P: Piece>(
     alloc: Global,
-    pieces: &DescriptorList,
+    pieces: &[P],
+    barriers: &[bool],
     completions: &[[u8; 32]],
     given_up: &[u8],
     order: LeftOrder,
-) -> Result<Rest, ResumeFault>
-    requires { length completions.now ≡ length pieces.now.descriptors.items }
+) -> Result<Rest<P>, ResumeFault>
+    requires count { length completions.now ≡ length pieces.now }
+    requires marked { barriers.now ≢ [] → length barriers.now ≡ length pieces.now }
     ensures { let ends = ends_of completions.now given_up.now in MatchResult result
-        (λ rest. IsLeftOver order pieces.now.descriptors.items pieces.now.barriers.items ends
-        (remainder_of rest))
+        (λ rest. IsLeftOver order pieces.now barriers.now ends (remainder_of rest))
         (λ fault. (fault ≡ Plan Memory) ⊎ ((i : ℕ) × (j : ℕ) × (fault ≡ PassedBarrier i j)
-        × IsFirstPassed pieces.now.barriers.items ends i j)) }
+        × IsFirstPassed barriers.now ends i j)) }
 {
     let ends = match ends_of(alloc, completions, given_up) {
         Ok(ends) => ends,
         Err(_) => return Err(ResumeFault::Plan(PlanFault::Memory)),
     };
-    let front = front_of(&pieces.barriers, &ends);
-    if let Some((i, j)) = first_passed(&pieces.barriers, &ends, front) {
+    let front = front_of(barriers, &ends);
+    if let Some((i, j)) = first_passed(barriers, &ends, front) {
         return Err(ResumeFault::PassedBarrier(i, j));
     }
-    match rest_of(alloc, pieces, &ends, front.end, order) {
+    match rest_of(alloc, pieces, barriers, &ends, front.end, order) {
         Ok(rest) => Ok(rest),
         Err(_) => Err(ResumeFault::Plan(PlanFault::Memory)),
     }

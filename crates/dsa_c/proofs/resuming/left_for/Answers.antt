@@ -3,7 +3,7 @@ use Rattle.std.proofs.lemmas.Grind.{common_steps}
 use Rattle.dsa_calls.specs.declared.fault.PlanFault.TheVariants.{Memory}
 use Rattle.dsa_resume.specs.declared.fault.ResumeFault.TheVariants.{Plan}
 use Rattle.dsa_resume.specs.Rest.{remainder_of}
-use Rattle.dsa_resume.specs.Resumed.{Resumes}
+use Rattle.dsa_operations.specs.Resuming.{ResumesAnyList}
 use Rattle.dsa_c.specs.Resuming.{IsLeftOf, order_of, resume_refusal_of}
 use Rattle.dsa_c.proofs.Refusing.{refuses}
 use Rattle.dsa_c.proofs.WhatIsLeft.{left_of_settings, refuses_room}
@@ -15,7 +15,7 @@ returns-in-Err c =
     let l = c.args.stopped in
     let told = c.in-Err.ensures.answer in (
       c.resume_refusal.ensures.some,
-      inl (refuses resume_refusal_of (λ x fault. Resumes x l.list.now l.records.now l.given_up.now (order_of l.failed_first) (Err fault)) (Plan Memory) c.args.settings.now c.args.table.now
+      inl (refuses resume_refusal_of (λ x fault. ResumesAnyList x l.list.now l.records.now l.given_up.now (order_of l.failed_first) (Err fault)) (Plan Memory) c.args.settings.now c.args.table.now
           c.in-Some.checked c.in-Err.fault c.resume_refusal.result refl checked.0 checked.1 (rw c.order_of-order.ensures at told) c.resume_refusal.ensures.value),
     )
 

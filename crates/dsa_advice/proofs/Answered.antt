@@ -1,11 +1,18 @@
 -- What explaining answers, by what the calls answer.
-use Rattle.std.proofs.Common.{◌≡◌, ◌⊎◌, ◌∙◌, inl, inr, ℕ, Bool, List, [], ap, map, Result, Option, Some, Ok, Err, IfOk, string_bytes, sym, subst, None}
+use Rattle.std.proofs.Common.{◌≡◌, ◌≤◌, ◌⊎◌, ◌∙◌, inl, inr, ℕ, Bool, List, [], ap, map, Result, Option, Some, Ok, Err, IfOk, string_bytes, sym, subst, None, length, arith}
+use Rattle.std.proofs.lemmas.List.{length-map}
 use Rattle.std.proofs.lemmas.Result.{IfOk-weaker}
 use Rattle.dsa_descriptor.specs.declared.descriptor.Descriptor.{Descriptor}
 use Rattle.dsa_descriptor.specs.Descriptors.{fields}
+use Rattle.dsa_descriptor.specs.Fields.{Fields}
+use Rattle.dsa_descriptor.specs.Pieces.{most_pieces}
 use Rattle.dsa_explain.specs.Runs.{Labelling, labelling}
 use Rattle.dsa_plan.specs.Plan.{Plan}
+use Rattle.dsa_plan.specs.Certificate.{Contents}
+use Rattle.dsa_plan.specs.Barriers.{WithBarriers}
+use Rattle.dsa_plan.specs.Legal.{IsLegal}
 use Rattle.dsa_plan.specs.Settings.{Limits}
+use Rattle.dsa_ranges.specs.Ranges.{ConflictAt}
 use Rattle.dsa_lines.specs.declared.fault.TextFault.{TextFault}
 use Rattle.dsa_lines.specs.declared.fault.TextFault.TheVariants.{Grammar, List as Listed, Memory as TextMemory}
 use Rattle.dsa_lines.specs.Assembled.{Assembles}
@@ -13,17 +20,20 @@ use Rattle.dsa_calls.specs.declared.fault.PlanFault.{PlanFault}
 use Rattle.dsa_calls.specs.declared.fault.PlanFault.TheVariants.{Memory}
 use Rattle.dsa_calls.specs.Lists.{IsListOf, IsOrMemory, OrMemory}
 use Rattle.dsa_splitter.specs.Pieces.{piece_barriers}
-use Rattle.dsa_calls.specs.Fenced.{PlansWith}
+use Rattle.dsa_splitter.proofs.Walks.{length_all}
+use Rattle.dsa_calls.specs.Fenced.{PiecesConflict, PlansWith}
+use Rattle.dsa_calls.specs.Checked.{ChecksPlanBy}
+use Rattle.dsa_calls.specs.Judge.{JudgesPiecesBy}
 use Rattle.dsa_calls.specs.Planned.{Submission}
+use Rattle.dsa_calls.proofs.PiecesChecked.{shown_by}
 use Rattle.dsa_reasons.specs.declared.fences.Detail.{Detail}
-use Rattle.dsa_explain.specs.declared.explanation.ExplainFault.{ExplainFault}
-use Rattle.dsa_explain.specs.Explained.{Explains}
+use Rattle.dsa_explain.specs.Explained.{CanBeExplained}
 use Rattle.dsa_advice.specs.declared.answer.Answer.{Answer}
-use Rattle.dsa_advice.specs.Refusals.{IsRefusal, NamesCause, explain_cause}
-use Rattle.dsa_advice.specs.Explained.{AnswersJudged, ExplainsList, TellsJudged, labels_of, is_compared, is_planned, is_refused_list, is_told, is_untold, is_waiting}
+use Rattle.dsa_advice.specs.Refusals.{IsRefusal}
+use Rattle.dsa_advice.specs.Explained.{AnswersJudged, ExplainsList, TellsJudged, labels_of, is_compared, is_planned, is_refused_list, is_told, is_waiting}
 use Rattle.dsa_advice.specs.declared.form.Form.{Form}
 use Rattle.dsa_advice.specs.declared.shown.Subject.{Subject}
-use Rattle.dsa_advice.specs.Shown.{AnswersPlan, AnswersSubject, ShowsPlan, TellsPlan, is_shown, is_too_large, is_unfit, is_untracked, unlabelled}
+use Rattle.dsa_advice.specs.Shown.{AnswersPlan, AnswersSubject, CanBeShown, ShowsPlan, TellsPlan, is_shown, is_too_large, is_untracked, unlabelled}
 
 -- what holds of an answer by two clauses
 pub both : {T E : Type 0} (r : Result T E) (P Q R : T → Type 0) → ((a : T) → P a → Q a → R a) → IfOk r P → IfOk r Q → IfOk r R
@@ -60,14 +70,6 @@ subject_answered r s x plan ds bs os least form e f g h k answers =
     let fourth = subst (λ (p : Labelling). IfOk r (AnswersPlan s plan ds bs p x.least form)) h third in
     subst (λ (n : Option ℕ). IfOk r (AnswersPlan s plan ds bs os n form)) k fourth
 
--- the answer of a plan, seen by what its pieces, barriers and origins are equal to
-pub plan_answered : {E : Type 0} (r : Result Answer E) (s : Limits) (plan : Plan) (ds ds' : List Descriptor) (bs bs' : List Bool) (os os' : Labelling) (least : Option ℕ) (form : Form)
-    → ds ≡ ds' → bs ≡ bs' → os ≡ os' → IfOk r (AnswersPlan s plan ds bs os least form) → IfOk r (AnswersPlan s plan ds' bs' os' least form)
-plan_answered r s plan ds ds' bs bs' os os' least form e f g answers =
-    let first = subst (λ (p : List Descriptor). IfOk r (AnswersPlan s plan p bs os least form)) e answers in
-    let second = subst (λ (p : List Bool). IfOk r (AnswersPlan s plan ds' p os least form)) f first in
-    subst (λ (p : Labelling). IfOk r (AnswersPlan s plan ds' bs' p least form)) g second
-
 -- the same of words
 pub subject_told : (s : Limits) (detail : Detail) (x : Subject) (plan : Plan) (ds : List Descriptor) (bs : List Bool) (os : Labelling) (text : List ℕ)
     → x.plan.now ≡ plan → x.pieces.now ≡ ds → x.barriers.now ≡ bs → labelling x.labels ≡ os
@@ -78,26 +80,50 @@ subject_told s detail x plan ds bs os text e f g h tells =
     let third = subst (λ (p : List Bool). TellsPlan s detail plan ds p (labelling x.labels) text) g second in
     subst (λ (p : Labelling). TellsPlan s detail plan ds bs p text) h third
 
--- and of why it is not explained
-pub subject_untold : (s : Limits) (detail : Detail) (x : Subject) (plan : Plan) (ds : List Descriptor) (bs : List Bool) (fault : ExplainFault)
-    → x.plan.now ≡ plan → x.pieces.now ≡ ds → x.barriers.now ≡ bs
-    → Explains s detail x.pieces.now x.barriers.now x.plan.now (Err fault) → Explains s detail ds bs plan (Err fault)
-subject_untold s detail x plan ds bs fault e f g told =
-    let first = subst (λ (p : Plan). Explains s detail x.pieces.now x.barriers.now p (Err fault)) e told in
-    let second = subst (λ (p : List Descriptor). Explains s detail p x.barriers.now plan (Err fault)) f first in
-    subst (λ (p : List Bool). Explains s detail ds p plan (Err fault)) g second
+-- and of what is shown
+pub subject_can : (s : Limits) (x : Subject) (plan : Plan) (ds : List Descriptor) (bs : List Bool)
+    → x.plan.now ≡ plan → x.pieces.now ≡ ds → x.barriers.now ≡ bs → CanBeExplained s ds bs plan → CanBeShown s x
+subject_can s x plan ds bs e f g can =
+    let first = subst (λ (p : Plan). CanBeExplained s ds bs p) (sym e) can in
+    let second = subst (λ (p : List Descriptor). CanBeExplained s p bs x.plan.now) (sym f) first in
+    subst (λ (p : List Bool). CanBeExplained s x.pieces.now p x.plan.now) (sym g) second
+
+-- ---- plans that can be explained
+
+-- a plan of operations
+pub planned_can : (bs : List Bool) (s : Limits) (fs : List Fields) (p : Submission) (ms : List Bool) → PlansWith bs s fs (Ok p)
+    → ms ≡ piece_barriers s.greatest_transfer fs bs → CanBeExplained s p.pieces ms p.plan
+planned_can bs s fs p ms says are =
+    let by = says.of_pieces in
+    let C = PiecesConflict s fs bs (map fields p.pieces) in
+    subst (λ (marks : List Bool). CanBeExplained s p.pieces marks p.plan) (sym are)
+    (record {
+      few = omega (arith, sym (length-map p.pieces fields) ∙ ap length says.pieces_are ∙ length_all fs s.greatest_transfer, says.split.few.few);
+      legal = (shown_by C s (length p.pieces) p.plan p.certificate p.cost by.chosen by.version_is by.cost_is).legal;
+    })
+
+-- a plan that was judged
+pub judged_can : (ds : List Descriptor) (plan : Plan) (s : Limits) (cost : ℕ) → JudgesPiecesBy (WithBarriers (ConflictAt (map fields ds)) []) (map (λ d. d.size) ds) plan s (Ok cost)
+    → CanBeExplained s ds [] plan
+judged_can ds plan s cost judges =
+    let count : length (map (λ d. d.size) ds) ≡ length ds = length-map ds (λ d. d.size) in
+    record {
+      few = omega (arith, count, judges.0);
+      legal = subst (λ (n : ℕ). IsLegal (WithBarriers (ConflictAt (map fields ds)) []) s.greatest_batch n plan) count judges.2;
+    }
+
+-- a plan that was checked
+pub checked_can : (ds : List Descriptor) (plan : Plan) (s : Limits) (certificate : Contents) (cost : ℕ) → length ds ≤ most_pieces
+    → ChecksPlanBy (WithBarriers (ConflictAt (map fields ds)) []) s (length ds) plan certificate (Ok cost) → CanBeExplained s ds [] plan
+checked_can ds plan s certificate cost few checks = record { few = few; legal = checks.legal }
+
+-- ---- warnings
 
 -- what is said beside an answer, as warnings, changes neither its status nor its text
-pub refused_beside : (fault : PlanFault) (a b : Answer) → b.status ≡ a.status → b.text ≡ a.text → IsRefusal fault a → IsRefusal fault b
-refused_beside fault a b status text r =
-    record { status = status ∙ r.status; cause = subst (λ (t : List ℕ). NamesCause fault t) (sym (ap string_bytes text)) r.cause }
-
 pub plan_beside : (s : Limits) (plan : Plan) (ds : List Descriptor) (bs : List Bool) (origins : Labelling) (least : Option ℕ) (form : Form) (a b : Answer)
     → b.status ≡ a.status → b.text ≡ a.text → AnswersPlan s plan ds bs origins least form a → AnswersPlan s plan ds bs origins least form b
 plan_beside s plan ds bs origins least form a b status text (is_shown z shows) =
     is_shown (status ∙ z) (subst (λ (t : List ℕ). ShowsPlan form s plan ds bs origins least t) (sym (ap string_bytes text)) shows)
-plan_beside s plan ds bs origins least form a b status text (is_unfit fault explains r) =
-    is_unfit fault explains (refused_beside (explain_cause fault) a b status text r)
 plan_beside s plan ds bs origins least form a b status text (is_too_large range drawn can many one words) =
     is_too_large range drawn can many (status ∙ one) (ap string_bytes text ∙ words)
 plan_beside s plan ds bs origins least form a b status text (is_untracked fault waits can refused one words) =
@@ -111,8 +137,6 @@ judged_beside s plan ds cost form a b status text (is_waiting waits answers) =
     is_waiting waits (plan_beside s plan ds [] unlabelled None form a b status text answers)
 judged_beside s plan ds cost form a b status text (is_told detail told z tells) =
     is_told detail told (status ∙ z) (subst (λ (t : List ℕ). TellsJudged s detail plan ds cost t) (sym (ap string_bytes text)) tells)
-judged_beside s plan ds cost form a b status text (is_untold detail told fault explains r) =
-    is_untold detail told fault explains (refused_beside (explain_cause fault) a b status text r)
 
 -- of planned operations, for a list that spells them
 pub operations_planned : {E : Type 0} (list : List ℕ) (bs : List Bool) (names : List (List ℕ)) (s : Limits) (form : Form) (ds : List Descriptor) (p : Submission) (r : Result Answer E) → IsListOf list ds

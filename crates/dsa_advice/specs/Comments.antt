@@ -1,11 +1,11 @@
 -- What the comments of a text name (this project's choice).
-use Rattle.std.specs.Prelude.{◌≡◌, ℕ, ◌==◌, ◌&&◌, nat_lt, not, Bool, List, [], ◌∷◌, ◌++◌, length, map, Option, Some, None, if◌then◌else◌}
+use Rattle.std.specs.Prelude.{◌≡◌, ℕ, ◌==◌, ◌&&◌, nat_lt, not, Bool, List, [], ◌∷◌, length, map, if◌then◌else◌}
 use Rattle.std.specs.Char.{is_control}
 use Rattle.std.specs.List.{list_any}
 use Rattle.std.specs.Str.{chars, is_utf8, trim}
 use Rattle.dsa_descriptor.specs.Fields.{Fields}
-use Rattle.dsa_lines.specs.Texts.{line_fields, lines_of, TextSpells}
-use Rattle.dsa_lines.specs.Words.{words_of}
+use Rattle.dsa_lines.specs.TextLists.{NumberedLine, line_shown, operation_lines}
+use Rattle.dsa_lines.specs.Texts.{lines_of, TextSpells}
 use Rattle.dsa_advice.specs.declared.unplanned.Source.{Source}
 use Rattle.dsa_advice.specs.declared.unplanned.Source.TheVariants.{Text, List as Listed, Job}
 
@@ -28,19 +28,17 @@ harmless text = if nat_lt 256 (length text) then [] else (if list_any is_obeyed 
 abbrev pub comment_of : List ℕ → List ℕ
 comment_of line = if is_utf8 (after_mark line) then harmless (trim (after_mark line)) else []
 
--- the name of the operation of a line, if it has one: the line's comment
-abbrev pub line_names : List ℕ → Option (List Fields) → List (List ℕ)
-line_names line None = []
-line_names line (Some fs) = map (λ f. comment_of line) fs
+-- the names of operations by their lines: the comment of each
+abbrev pub names_in : List NumberedLine → List (List ℕ)
+names_in lines = map (λ line. comment_of line.2) lines
 
 -- the names of the operations of lines, in their order
-unfoldable pub names_of : List (List ℕ) → List (List ℕ)
-names_of [] = []
-names_of (line ∷ lines) = line_names line (line_fields (words_of line)) ++ names_of lines
+abbrev pub names_of : List (List ℕ) → List (List ℕ)
+names_of lines = names_in (operation_lines 1 lines)
 
 -- the names of operations, by where they come from: those of a job have none
 abbrev pub names_from : Source → List (List ℕ)
-names_from (Text text) = names_of (lines_of text.now)
+names_from (Text text lines) = names_in (map line_shown lines.now)
 names_from Listed = []
 names_from Job = []
 

@@ -20,13 +20,11 @@ use Rattle.dsa_calls.specs.Lists.{IsListOf}
 use Rattle.dsa_calls.specs.Planned.{Submission, Plans, PlansOperations}
 use Rattle.dsa_splitter.specs.Pieces.{piece_barriers}
 use Rattle.dsa_reasons.specs.declared.fences.Detail.{Detail}
-use Rattle.dsa_explain.specs.declared.explanation.ExplainFault.{ExplainFault}
-use Rattle.dsa_explain.specs.Explained.{Explains}
 use Rattle.dsa_explain.specs.Runs.{Labelling}
 use Rattle.dsa_advice.specs.declared.answer.Answer.{Answer}
 use Rattle.dsa_advice.specs.declared.form.Form.{Form}
 use Rattle.dsa_advice.specs.declared.form.Form.TheVariants.{Words, Picture, Json, Waits}
-use Rattle.dsa_advice.specs.Refusals.{IsRefusal, RefusesText, explain_cause}
+use Rattle.dsa_advice.specs.Refusals.{IsRefusal, RefusesText}
 use Rattle.dsa_advice.specs.Comments.{names_of}
 use Rattle.dsa_advice.specs.Origins.{origins_from}
 use Rattle.dsa_advice.specs.Shown.{AnswersPlan, TellsPlan, unlabelled}
@@ -97,13 +95,11 @@ ComparesCosts (Picture range) = ⊤
 ComparesCosts Json = ⊤
 ComparesCosts Waits = ⊥
 
--- a judged plan as a picture, as JSON or in words, with the least cost, or by its waits; or refused for the cause that
--- `explain` finds, which can only be an allocation failure
+-- a judged plan as a picture, as JSON or in words, with the least cost, or by its waits
 pub data AnswersJudged (s : Limits) (plan : Plan) (pieces : List Descriptor) (cost : ℕ) (form : Form) (a : Answer) : Type 0 where
   is_compared : (least : Option ℕ) → ComparesCosts form → IsLeastCost s (map fields pieces) least → AnswersPlan s plan pieces [] unlabelled least form a → AnswersJudged s plan pieces cost form a
   is_waiting : form ≡ Waits → AnswersPlan s plan pieces [] unlabelled None form a → AnswersJudged s plan pieces cost form a
   is_told : (detail : Detail) → form ≡ Words detail → a.status ≡ 0 → TellsJudged s detail plan pieces cost (string_bytes a.text) → AnswersJudged s plan pieces cost form a
-  is_untold : (detail : Detail) → form ≡ Words detail → (fault : ExplainFault) → Explains s detail pieces [] plan (Err fault) → IsRefusal (explain_cause fault) a → AnswersJudged s plan pieces cost form a
 
 -- refused if `judge` refuses the list or the plan, for its cause; else the plan with the cost that
 -- `judge` answers

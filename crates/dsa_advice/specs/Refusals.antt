@@ -1,15 +1,12 @@
 -- Refusals: a status, and a message that names the cause (this project's choice).
 use Rattle.std.specs.Prelude.{◌≡◌, ℕ, List, ◌++◌, codes, decimal, string_bytes}
-use Rattle.dsa_splitter.specs.declared.fault.SplitFault.TheVariants.{TooManyPieces}
 use Rattle.dsa_sentences.specs.declared.causes.TextCause.TheVariants.{Line}
 use Rattle.dsa_sentences.specs.Endings.{ending_of}
 use Rattle.dsa_lines.specs.declared.fault.TextFault.{TextFault}
 use Rattle.dsa_lines.specs.declared.fault.TextFault.TheVariants.{Grammar, List as Listed, Memory as TextMemory}
 use Rattle.dsa_calls.specs.declared.fault.PlanFault.{PlanFault}
-use Rattle.dsa_calls.specs.declared.fault.PlanFault.TheVariants.{Split, Legal, Memory}
+use Rattle.dsa_calls.specs.declared.fault.PlanFault.TheVariants.{Memory}
 use Rattle.dsa_calls.specs.Fault.{fault_number, fault_name, fault_indices, fault_inner, indices_text, inner_text, list_cause}
-use Rattle.dsa_explain.specs.declared.explanation.ExplainFault.{ExplainFault}
-use Rattle.dsa_explain.specs.declared.explanation.ExplainFault.TheVariants.{TooManyPieces as ManyPieces, Legal as NotLegal, Memory as ExplainMemory}
 use Rattle.dsa_advice.specs.declared.answer.Answer.{Answer}
 
 -- the number, the name and the indices of a cause, as in the line of `dsa`
@@ -36,9 +33,3 @@ abbrev pub RefusesText : TextFault → Answer → Type 0
 RefusesText (Grammar line column what) a = (a.status ≡ 1) × NamesGrammar (string_bytes a.text)
 RefusesText (Listed line fault) a = IsRefusal (list_cause fault) a
 RefusesText TextMemory a = IsRefusal Memory a
-
--- the cause for which a plan is not explained
-abbrev pub explain_cause : ExplainFault → PlanFault
-explain_cause ManyPieces = Split TooManyPieces
-explain_cause (NotLegal fault) = Legal fault
-explain_cause ExplainMemory = Memory

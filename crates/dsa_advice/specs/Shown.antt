@@ -1,5 +1,5 @@
 -- What explaining a plan of pieces answers (this project's choice).
-use Rattle.std.specs.Prelude.{◌≡◌, ◌+◌, ◌-◌, ◌<◌, ◌≤◌, ℕ, nat_lt, Bool, List, [], ◌∷◌, ◌++◌, codes, decimal, length, string_bytes, Option, Err, if◌then◌else◌}
+use Rattle.std.specs.Prelude.{◌≡◌, ◌+◌, ◌-◌, ◌<◌, ◌≤◌, ℕ, nat_lt, Bool, List, [], ◌∷◌, ◌++◌, codes, decimal, length, string_bytes, Option, if◌then◌else◌}
 use Rattle.dsa_descriptor.specs.declared.descriptor.Descriptor.{Descriptor}
 use Rattle.dsa_sentences.specs.declared.causes.TextCause.TheVariants.{Picture as Large}
 use Rattle.dsa_sentences.specs.Endings.{ending_of}
@@ -7,10 +7,9 @@ use Rattle.dsa_plan.specs.Plan.{Plan}
 use Rattle.dsa_plan.specs.Settings.{Limits}
 use Rattle.dsa_reasons.specs.declared.fences.Detail.{Detail}
 use Rattle.dsa_reasons.specs.declared.fences.Detail.TheVariants.{First, All as Every}
-use Rattle.dsa_explain.specs.declared.explanation.ExplainFault.{ExplainFault}
 use Rattle.dsa_explain.specs.declared.picture.PieceRange.{PieceRange}
 use Rattle.dsa_explain.specs.declared.explanation.Explanation.{Explanation}
-use Rattle.dsa_explain.specs.Explained.{CanBeExplained, Explains, IsExplanationOf}
+use Rattle.dsa_explain.specs.Explained.{CanBeExplained, IsExplanationOf}
 use Rattle.dsa_drawing.specs.Pictures.{IsPicture}
 use Rattle.dsa_explain.specs.Runs.{Labelling, labelling}
 use Rattle.dsa_explain.specs.Words.{explanation_words}
@@ -24,16 +23,8 @@ use Rattle.dsa_advice.specs.declared.answer.Answer.{Answer}
 use Rattle.dsa_advice.specs.declared.shown.Subject.{Subject}
 use Rattle.dsa_advice.specs.declared.form.Form.{Form}
 use Rattle.dsa_advice.specs.declared.form.Form.TheVariants.{Words, Picture, Json, Waits}
-use Rattle.dsa_advice.specs.Refusals.{IsRefusal, explain_cause}
 
 -- ---- forms
-
--- how many of the conflicts of each fence a form shows
-abbrev pub detail_of : Form → Detail
-detail_of (Words detail) = detail
-detail_of (Picture range) = First
-detail_of Json = Every
-detail_of Waits = First
 
 -- the form that flags ask for: a picture of these pieces, JSON, what groups wait for, words with all conflicts; else words with the first ones
 abbrev pub form_of : PieceRange → Bool → Bool → Bool → Bool → Form
@@ -102,15 +93,18 @@ abbrev pub untracked : TrackFault → List ℕ
 untracked fault =
     codes "error: a tracker with 64 slots refuses the groups" ++ (codes " [" ++ (decimal (track_number fault) ++ (codes " " ++ (track_name fault ++ codes "]\n"))))
 
--- A plan that can be explained is shown, with status 0. A plan is refused if it can't be explained, for
--- the cause that `explain` finds, if too many of its groups are to be drawn, or if a tracker refuses its groups.
+-- A plan that can be explained is shown, with status 0. It is refused if too many of its groups are to be drawn, or if a
+-- tracker refuses its groups.
 pub data AnswersPlan (s : Limits) (plan : Plan) (pieces : List Descriptor) (barriers : List Bool) (labels : Labelling) (least : Option ℕ) (form : Form) (a : Answer) : Type 0 where
   is_shown : a.status ≡ 0 → ShowsPlan form s plan pieces barriers labels least (string_bytes a.text) → AnswersPlan s plan pieces barriers labels least form a
-  is_unfit : (fault : ExplainFault) → Explains s (detail_of form) pieces barriers plan (Err fault) → IsRefusal (explain_cause fault) a → AnswersPlan s plan pieces barriers labels least form a
   is_too_large : (range : PieceRange) → form ≡ Picture range → CanBeExplained s pieces barriers plan → most_rows < drawn_groups range.first range.last plan → a.status ≡ 1
       → string_bytes a.text ≡ too_many_groups (drawn_groups range.first range.last plan) → AnswersPlan s plan pieces barriers labels least form a
   is_untracked : (fault : TrackFault) → form ≡ Waits → CanBeExplained s pieces barriers plan → RefusesWaits s.staging plan pieces (Track fault)
       → a.status ≡ 1 → string_bytes a.text ≡ untracked fault → AnswersPlan s plan pieces barriers labels least form a
+
+-- the plan that is to be shown can be explained
+abbrev pub CanBeShown : Limits → Subject → Type 0
+CanBeShown s x = CanBeExplained s x.pieces.now x.barriers.now x.plan.now
 
 -- the plan that is shown in a form
 abbrev pub AnswersSubject : Limits → Subject → Form → Answer → Type 0

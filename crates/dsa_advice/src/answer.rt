@@ -2,16 +2,14 @@
 
 ghost use Rattle.std.specs.Prelude.{◌≡◌, IfOk};
 ghost use Rattle.dsa_calls.specs.Fault.{list_cause};
-ghost use Rattle.dsa_advice.specs.Refusals.{IsRefusal, RefusesText, explain_cause};
+ghost use Rattle.dsa_advice.specs.Refusals.{IsRefusal, RefusesText};
 
 use crate::messages::{grammar_message, line_message, list_message, message_of, message_with};
 use crate::mistakes::{grammar_mistakes, list_mistakes};
 use crate::words::{line_at, other_than_lines};
 use dsa_calls::PlanFault;
 use dsa_descriptor::ListFault;
-use dsa_explain::ExplainFault;
 use dsa_lines::TextFault;
-use dsa_splitter::SplitFault;
 use std::alloc::{AllocError, Global};
 
 /// What a command answers.
@@ -106,19 +104,6 @@ impl Answer {
                 Ok(Answer::refused(all))
             }
             TextFault::Memory => Answer::fault(alloc, PlanFault::Memory),
-        }
-    }
-
-    /// The refusal of a plan that is to be explained.
-    pub(crate) fn explain_fault(alloc: Global, fault: ExplainFault) -> Result<Answer, AllocError>
-        ensures { IfOk result (IsRefusal (explain_cause fault)) }
-    {
-        match fault {
-            ExplainFault::TooManyPieces => {
-                Answer::fault(alloc, PlanFault::Split(SplitFault::TooManyPieces))
-            }
-            ExplainFault::Legal(fault) => Answer::fault(alloc, PlanFault::Legal(fault)),
-            ExplainFault::Memory => Answer::fault(alloc, PlanFault::Memory),
         }
     }
 }

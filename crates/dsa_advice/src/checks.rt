@@ -3,8 +3,8 @@
 use crate::notes::Notes;
 use crate::origins::count_of;
 use crate::unplanned::Source;
-use crate::words::line_of_operation;
 use dsa_descriptor::Descriptor;
+use dsa_lines::{OperationLine, line_of_operation};
 use dsa_plan::{Plan, Settings};
 use dsa_settings::cuts_of;
 use dsa_warnings::{Concern, check_concern};
@@ -39,7 +39,7 @@ pub(crate) fn check_notes(
     plan: &Plan,
     settings: &Settings,
 ) -> Result<Option<String>, AllocError> {
-    let Source::Text(text) = source else {
+    let Source::Text(_, lines) = source else {
         return Ok(None);
     };
     let (last, cuts) = (last_barrier(marks), cuts_of(alloc, plan)?);
@@ -51,7 +51,7 @@ pub(crate) fn check_notes(
         let goes_on = cuts.get(next).copied() == Some(false);
         if let Some(cause) = note_on(check_concern(d, is_before_barrier, goes_on)) {
             if notes.count() {
-                notes.write(&note_of(alloc, text, operation, cause)?)?;
+                notes.write(&note_of(alloc, lines, operation, cause)?)?;
             }
         }
     }
@@ -61,10 +61,10 @@ pub(crate) fn check_notes(
 /// The line of an operation's cause.
 fn note_of(
     alloc: Global,
-    text: &[u8],
+    lines: &[OperationLine<'_>],
     operation: usize,
     cause: &str,
 ) -> Result<String, AllocError> {
-    let line = line_of_operation(text, operation);
+    let line = line_of_operation(lines, operation);
     format!(in alloc; "note: line {line}, operation {operation}: {cause}\n")
 }

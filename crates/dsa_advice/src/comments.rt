@@ -1,16 +1,15 @@
 //! What the comments of a text name: operations, and buffers.
 
-ghost use Rattle.std.specs.Prelude.{◌≡◌, ◌≤◌, ◌++◌, IfOk, OnOk, length, map, string_bytes};
+ghost use Rattle.std.specs.Prelude.{◌≡◌, IfOk, map, string_bytes};
 ghost use Rattle.std.specs.List.{list_any};
 ghost use Rattle.std.specs.Str.{chars};
-ghost use Rattle.dsa_lines.specs.Texts.{line_fields, line_len, lines_of};
-ghost use Rattle.dsa_lines.specs.Words.{words_of};
-ghost use Rattle.dsa_advice.specs.Comments.{after_mark, comment_of, harmless, is_obeyed, line_names, names_from, names_of};
+ghost use Rattle.dsa_lines.specs.TextLists.{line_shown};
+ghost use Rattle.dsa_advice.specs.Comments.{after_mark, comment_of, harmless, is_obeyed, names_from, names_in};
 
 use crate::numbers::number_of;
 use crate::unplanned::Source;
 use dsa_explain::Buffer;
-use dsa_lines::operation_bytes;
+use dsa_lines::OperationLine;
 use std::alloc::{AllocError, Global};
 
 /// The most bytes of a name, which each piece of its operation shows.
@@ -95,63 +94,33 @@ fn push_buffer(alloc: Global, buffers: &mut Vec<Buffer>, comment: &str) -> Resul
     Ok(())
 }
 
-/// Adds the name of a line's operation, or for pictures of the buffer that its comment names.
-fn push_comment(
-    alloc: Global,
-    names: &mut Vec<String>,
-    buffers: &mut Vec<Buffer>,
-    line: &[u8],
-    is_drawn: bool,
-) -> Result<(), AllocError>
-    ensures { OnOk result (map string_bytes names.new.items ≡
-        map string_bytes names.old.items ++ line_names line.now (line_fields (words_of line.now))) }
-{
-    let comment = comment_of(line);
-    match operation_bytes(line) {
-        Ok(Some(_)) => names.push(String::from_str(alloc, comment)?)?,
-        Ok(None) | Err(_) => {
-            if is_drawn {
-                push_buffer(alloc, buffers, comment)?;
-            }
-        }
-    }
-    Ok(())
-}
-
-/// How many bytes are before the first newline.
-#[tactic(auto, using(dsa_lines::proofs::TextLemmas::lines_at))]
-fn line_len(text: &[u8]) -> usize
-    ensures value { result ≡ line_len text.now }
-    ensures bound { result ≤ length text.now }
-{
-    let mut len: usize = 0;
-    let mut rest = text;
-    while let [first, after @ ..] = rest {
-        if *first == b'\n' {
-            return len;
-        }
-        len += 1;
-        rest = after;
-    }
-    len
-}
-
-/// What the comments of a text name.
-fn comments_of(alloc: Global, text: &[u8], is_drawn: bool) -> Result<Comments, AllocError>
+/// The names of operations, by their lines: the comment of each.
+fn names_in(alloc: Global, lines: &[OperationLine<'_>]) -> Result<Vec<String>, AllocError>
     ensures { IfOk result
-        (λ found. map string_bytes found.names.items ≡ names_of (lines_of text.now)) }
+        (λ names. map string_bytes names.items ≡ names_in (map line_shown lines.now)) }
 {
     let mut names = Vec::new(alloc);
-    let mut buffers = Vec::new(alloc);
-    let mut rest = text;
-    'lines: loop {
-        let (line, after) = rest.split_at(line_len(rest));
-        push_comment(alloc, &mut names, &mut buffers, line, is_drawn)?;
-        let [_newline, next @ ..] = after else {
-            return Ok(Comments { names, buffers });
-        };
-        rest = next;
+    for line in lines {
+        names.push(String::from_str(alloc, comment_of(line.text))?)?;
     }
+    Ok(names)
+}
+
+/// The buffers that the comments of the other lines of a text name.
+fn buffers_in(
+    alloc: Global,
+    text: &[u8],
+    lines: &[OperationLine<'_>],
+) -> Result<Vec<Buffer>, AllocError> {
+    let mut buffers = Vec::new(alloc);
+    let mut rest = lines;
+    for (before, line) in text.split(|byte| *byte == b'\n').enumerate() {
+        match rest {
+            [next, after @ ..] if next.number == before.saturating_add(1) => rest = after,
+            [] | [_, ..] => push_buffer(alloc, &mut buffers, comment_of(line))?,
+        }
+    }
+    Ok(buffers)
 }
 
 /// What comments name, by where operations come from: nothing but in a text, and buffers only for pictures.
@@ -163,7 +132,15 @@ pub(crate) fn comments_in(
     ensures { IfOk result (λ found. map string_bytes found.names.items ≡ names_from source.entry) }
 {
     match source {
-        Source::Text(text) => comments_of(alloc, text, is_drawn),
+        Source::Text(text, lines) => {
+            let names = names_in(alloc, lines)?;
+            let buffers = if is_drawn {
+                buffers_in(alloc, text, lines)?
+            } else {
+                Vec::new(alloc)
+            };
+            Ok(Comments { names, buffers })
+        }
         Source::List | Source::Job => Ok(Comments {
             names: Vec::new(alloc),
             buffers: Vec::new(alloc),

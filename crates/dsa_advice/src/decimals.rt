@@ -146,7 +146,7 @@ pub(crate) fn decimal_notes(
     alloc: Global,
     source: Source<'_>,
 ) -> Result<Option<String>, AllocError> {
-    let Source::Text(text) = source else {
+    let Source::Text(text, _) = source else {
         return Ok(None);
     };
     let addresses = addresses_in(text);

@@ -10,6 +10,7 @@ ghost use Rattle.dsa_calls.specs.declared.fault.PlanFault.{PlanFault};
 ghost use Rattle.dsa_calls.specs.declared.fault.PlanFault.TheVariants.{Memory};
 ghost use Rattle.dsa_calls.specs.Checked.{Checks, ChecksPlan};
 ghost use Rattle.dsa_calls.specs.Lists.{IsListOf};
+ghost use Rattle.dsa_explain.specs.Explained.{CanBeExplained};
 ghost use Rattle.dsa_explain.specs.Runs.{labelling};
 ghost use Rattle.dsa_advice.specs.Comments.{names_from};
 ghost use Rattle.dsa_advice.specs.Explained.{ExplainsChecked, ExplainsList, ExplainsText, labels_of};
@@ -32,7 +33,7 @@ use crate::unplanned::{Source, refuse_unplanned};
 use dsa_calls::{PlanFault, Planned, check_plan, plan_operations};
 use dsa_descriptor::{Descriptor, DescriptorList, read_descriptor_list, read_list};
 use dsa_explain::{Buffer, Labels};
-use dsa_lines::parse_list;
+use dsa_lines::parse_text;
 use dsa_plan::{Certificate, Plan, Settings, read_emission};
 use std::alloc::{AllocError, Global};
 
@@ -63,6 +64,8 @@ fn answer_planned(
     form: Form,
     source: Source<'_>,
 ) -> Result<Answer, AllocError>
+    requires { CanBeExplained settings.now planned.now.pieces.items planned.now.barriers.items
+        planned.now.plan }
     ensures { IfOk result (AnswersPlan settings.now planned.now.plan planned.now.pieces.items
         planned.now.barriers.items
         (labels_of settings.now (map fields operations.now.descriptors.items)
@@ -101,6 +104,8 @@ fn answer_with_warnings(
     form: Form,
     source: Source<'_>,
 ) -> Result<Answer, AllocError>
+    requires { CanBeExplained settings.now planned.now.pieces.items planned.now.barriers.items
+        planned.now.plan }
     ensures { IfOk result (AnswersPlan settings.now planned.now.plan planned.now.pieces.items
         planned.now.barriers.items
         (labels_of settings.now (map fields list.now.descriptors.items)
@@ -110,7 +115,7 @@ fn answer_with_warnings(
     let answer = answer_planned(alloc, list, planned, settings, form, source)?;
     let (operations, marks) = (list.descriptors.as_slice(), list.barriers.as_slice());
     let barriers = barrier_notes(alloc, source, marks, form)?;
-    let fences = unkept_notes(alloc, source, operations, &planned.plan, settings)?;
+    let fences = unkept_notes(alloc, source, operations, marks, &planned.plan, settings)?;
     let of_barriers = joined(barriers, fences)?;
     let of_operations = operation_notes(alloc, operations, settings)?;
     let checks = check_notes(alloc, source, operations, marks, &planned.plan, settings)?;
@@ -182,9 +187,10 @@ pub fn explain_text(
 ) -> Result<Answer, AllocError>
     ensures { IfOk result (ExplainsText text.now keep_fences settings.now form) }
 {
-    match parse_list(alloc, text, keep_fences) {
-        Ok(operations) => {
-            explain_operations(alloc, &operations, settings, form, Source::Text(text))
+    match parse_text(alloc, text, keep_fences) {
+        Ok(read) => {
+            let source = Source::Text(text, &read.lines);
+            explain_operations(alloc, &read.list, settings, form, source)
         }
         Err(fault) => Answer::text_fault(alloc, text, fault),
     }

@@ -4,9 +4,9 @@ use crate::forgone::is_given_up;
 use crate::notes::Notes;
 use crate::origins::origins_of;
 use crate::unfit::{STATUS, fault_address};
-use crate::words::line_of_operation;
 use dsa_descriptor::Descriptor;
 use dsa_explain::Origin;
+use dsa_lines::{OperationLine, line_of_operation};
 use dsa_plan::Settings;
 use std::alloc::{AllocError, Global};
 
@@ -42,7 +42,7 @@ fn part_text(alloc: Global, origin: &Origin) -> Result<String, AllocError> {
 /// The line of a piece that has failed.
 fn line_of(
     alloc: Global,
-    text: &[u8],
+    lines: &[OperationLine<'_>],
     piece: usize,
     origin: &Origin,
     record: &[u8; 32],
@@ -50,7 +50,7 @@ fn line_of(
 ) -> Result<String, AllocError> {
     let (operation, status) = (origin.operation, record[0]);
     let (line, part) = (
-        line_of_operation(text, operation),
+        line_of_operation(lines, operation),
         part_text(alloc, origin)?,
     );
     let mut note = format!(in alloc; "note: line {line}, operation {operation}: piece {piece}")?;
@@ -66,7 +66,7 @@ fn line_of(
 /// A line for each piece that has failed, up to 20, and how many more there are.
 pub(crate) fn failed_notes(
     alloc: Global,
-    text: &[u8],
+    lines: &[OperationLine<'_>],
     operations: &[Descriptor],
     settings: &Settings,
     records: &[[u8; 32]],
@@ -77,7 +77,7 @@ pub(crate) fn failed_notes(
     for (piece, (origin, record)) in origins.iter().zip(records).enumerate() {
         if record[0] > 2 && notes.count() {
             let is_given_up = is_given_up(given_up, piece);
-            notes.write(&line_of(alloc, text, piece, origin, record, is_given_up)?)?;
+            notes.write(&line_of(alloc, lines, piece, origin, record, is_given_up)?)?;
         }
     }
     notes.into_text(alloc, "pieces that have failed")

@@ -1,7 +1,7 @@
 //! How `explain` shows a plan.
 
 ghost use Rattle.std.specs.Prelude.{◌≡◌};
-ghost use Rattle.dsa_advice.specs.Shown.{detail_of, form_of};
+ghost use Rattle.dsa_advice.specs.Shown.{form_of};
 
 use dsa_explain::{Detail, PieceRange};
 
@@ -16,19 +16,6 @@ pub enum Form {
     Json,
     /// By what its groups wait for.
     Waits,
-}
-
-impl Form {
-    /// How many of the conflicts of each fence it shows.
-    pub(crate) fn detail(self) -> Detail
-        ensures { result ≡ detail_of self }
-    {
-        match self {
-            Form::Words(detail) => detail,
-            Form::Picture(_) | Form::Waits => Detail::First,
-            Form::Json => Detail::All,
-        }
-    }
 }
 
 /// The form that the flags `--svg`, `--json`, `--waits` and `--all` ask for, of these pieces.

@@ -6,6 +6,7 @@ ghost use Rattle.dsa_calls.specs.declared.fault.PlanFault.{PlanFault};
 ghost use Rattle.dsa_calls.specs.declared.fault.PlanFault.TheVariants.{Memory};
 ghost use Rattle.dsa_calls.specs.Judge.{Judges, JudgesPieces};
 ghost use Rattle.dsa_calls.specs.Lists.{IsListOf};
+ghost use Rattle.dsa_explain.specs.Explained.{CanBeExplained};
 ghost use Rattle.dsa_advice.specs.declared.form.Form.TheVariants.{Words, Waits};
 ghost use Rattle.dsa_advice.specs.Explained.{AnswersJudged, ComparesCosts, ExplainsJudged, IsLeastCost, least_words, more_words};
 ghost use Rattle.dsa_advice.specs.Refusals.{IsRefusal};
@@ -76,19 +77,13 @@ fn judged_words(
     cost: u64,
     detail: Detail,
 ) -> Result<Answer, AllocError>
-    requires { list.now.barriers.items ≡ [] }
+    requires can { CanBeExplained settings.now list.now.descriptors.items [] plan.now }
+    requires plain { list.now.barriers.items ≡ [] }
     ensures { IfOk result
         (AnswersJudged settings.now plan.now list.now.descriptors.items cost (Words detail)) }
 {
-    let mut text = match plan_words(
-        alloc,
-        &plain(plan, &list.descriptors, None),
-        settings,
-        detail,
-    ) {
-        Ok(text) => text,
-        Err(fault) => return Answer::explain_fault(alloc, fault),
-    };
+    let subject = plain(plan, &list.descriptors, None);
+    let mut text = plan_words(alloc, &subject, settings, detail)?;
     let least = least_cost(alloc, list, settings)?;
     text.push_str(&least_text(alloc, cost, least)?)?;
     Ok(Answer::done(text))
@@ -103,6 +98,7 @@ fn judged_with_least(
     cost: u64,
     form: Form,
 ) -> Result<Answer, AllocError>
+    requires can { CanBeExplained settings.now list.now.descriptors.items [] plan.now }
     requires plain { list.now.barriers.items ≡ [] }
     requires compares { ComparesCosts form }
     ensures { IfOk result
@@ -125,6 +121,7 @@ fn judged_waits(
     settings: &Settings,
     cost: u64,
 ) -> Result<Answer, AllocError>
+    requires { CanBeExplained settings.now list.now.descriptors.items [] plan.now }
     ensures { IfOk result
         (AnswersJudged settings.now plan.now list.now.descriptors.items cost Waits) }
 {
@@ -145,7 +142,8 @@ fn judged_in_form(
     cost: u64,
     form: Form,
 ) -> Result<Answer, AllocError>
-    requires { list.now.barriers.items ≡ [] }
+    requires can { CanBeExplained settings.now list.now.descriptors.items [] plan.now }
+    requires plain { list.now.barriers.items ≡ [] }
     ensures { IfOk result
         (AnswersJudged settings.now plan.now list.now.descriptors.items cost form) }
 {
@@ -167,7 +165,8 @@ fn answer_judged(
     cost: u64,
     form: Form,
 ) -> Result<Answer, AllocError>
-    requires { list.now.barriers.items ≡ [] }
+    requires can { CanBeExplained settings.now list.now.descriptors.items [] plan.now }
+    requires plain { list.now.barriers.items ≡ [] }
     ensures { IfOk result
         (AnswersJudged settings.now plan.now list.now.descriptors.items cost form) }
 {

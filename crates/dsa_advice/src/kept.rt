@@ -5,9 +5,8 @@ use crate::form::Form;
 use crate::notes::Notes;
 use crate::origins::count_of;
 use crate::unplanned::Source;
-use crate::words::line_of_operation;
-use dsa_descriptor::Descriptor;
-use dsa_lines::text_barriers;
+use dsa_descriptor::{Descriptor, mark_at};
+use dsa_lines::{OperationLine, line_of_operation};
 use dsa_plan::{Plan, Settings};
 use dsa_settings::cuts_of;
 use std::alloc::{AllocError, Global};
@@ -32,23 +31,25 @@ pub(crate) fn barrier_notes(
     form: Form,
 ) -> Result<Option<String>, AllocError> {
     match (source, form) {
-        (Source::Text(_) | Source::List, Form::Waits) if !marks.is_empty() => Ok(Some(
+        (Source::Text(_, _) | Source::List, Form::Waits) if !marks.is_empty() => Ok(Some(
             String::from_str(
                 alloc,
                 "warning: a tracker does not see barriers: let each group wait for all before it\n",
             )?,
         )),
-        (Source::Text(_) | Source::List | Source::Job, _) => Ok(None),
+        (Source::Text(_, _) | Source::List | Source::Job, _) => Ok(None),
     }
 }
 
-/// The operations that have `fence` in their lines, and no barrier before them.
-pub fn fenced_in(alloc: Global, text: &[u8]) -> Result<Vec<usize>, AllocError> {
-    let kept = text_barriers(alloc, text, true)?;
-    let plain = text_barriers(alloc, text, false)?;
+/// The operations after the first that have `fence` in their lines, and no barrier before them.
+pub fn fenced_in(
+    alloc: Global,
+    lines: &[OperationLine<'_>],
+    marks: &[bool],
+) -> Result<Vec<usize>, AllocError> {
     let mut fenced = Vec::new(alloc);
-    for (operation, mark) in kept.iter().enumerate() {
-        if *mark && !plain.get(operation).copied().unwrap_or(false) {
+    for operation in 1..lines.len() {
+        if lines[operation].is_fenced && !mark_at(marks, operation) {
             fenced.push(operation)?;
         }
     }
@@ -85,14 +86,14 @@ fn unkept_in(
 /// A line for each of these operations, with the place of its fence.
 pub fn fence_lines(
     alloc: Global,
-    text: &[u8],
+    lines: &[OperationLine<'_>],
     operations: &[usize],
     why: &str,
 ) -> Result<Option<String>, AllocError> {
     let mut notes = Notes::new(alloc);
     for operation in operations {
         if notes.count() {
-            let line = line_of_operation(text, *operation);
+            let line = line_of_operation(lines, *operation);
             notes.write(&format!(in alloc; "note: line {line}, operation {operation}: ")?)?;
             notes.write(why)?;
             notes.write("; --keep-fences makes it a barrier\n")?;
@@ -106,16 +107,17 @@ pub(crate) fn unkept_notes(
     alloc: Global,
     source: Source<'_>,
     operations: &[Descriptor],
+    marks: &[bool],
     plan: &Plan,
     settings: &Settings,
 ) -> Result<Option<String>, AllocError> {
-    let Source::Text(text) = source else {
+    let Source::Text(_, lines) = source else {
         return Ok(None);
     };
-    let fenced = fenced_in(alloc, text)?;
+    let fenced = fenced_in(alloc, lines, marks)?;
     if fenced.is_empty() {
         return Ok(None);
     }
     let unkept = unkept_in(alloc, &fenced, operations, plan, settings)?;
-    fence_lines(alloc, text, &unkept, "the plan does not keep this fence")
+    fence_lines(alloc, lines, &unkept, "the plan does not keep this fence")
 }

@@ -9,7 +9,7 @@ use crate::rows::warnings_of;
 use crate::unfit::unfit_notes;
 use dsa_calls::{PlanFault, Planned, plan_operations};
 use dsa_descriptor::{Descriptor, DescriptorList, Op};
-use dsa_lines::{TextFault, parse_list};
+use dsa_lines::TextList;
 use dsa_plan::Settings;
 use dsa_settings::cuts_of;
 use std::alloc::{AllocError, Global};
@@ -166,18 +166,12 @@ fn early_note(
 /// begun.
 pub fn resume_notes(
     alloc: Global,
-    text: &[u8],
-    keep_fences: bool,
+    read: &TextList<'_>,
     settings: &Settings,
     records: &[u8],
     given_up: &[u8],
 ) -> Result<Option<String>, AllocError> {
-    let list = match parse_list(alloc, text, keep_fences) {
-        Ok(list) => list,
-        Err(TextFault::Memory) => return Err(AllocError),
-        Err(TextFault::Grammar(..) | TextFault::List(..)) => return Ok(None),
-    };
-    let operations = list.descriptors.as_slice();
+    let operations = read.list.descriptors.as_slice();
     let (pieces, given) = (piece_total(operations, settings), records.len());
     let needed = pieces.saturating_mul(32);
     if given != needed {
@@ -193,9 +187,8 @@ pub fn resume_notes(
         return Ok(shared);
     }
     let (completions, _) = records.as_chunks::<32>();
-    let failed = failed_notes(alloc, text, operations, settings, completions, given_up)?;
-    joined(
-        failed,
-        records_notes(alloc, &list, settings, records, given_up)?,
-    )
+    let lines = read.lines.as_slice();
+    let failed = failed_notes(alloc, lines, operations, settings, completions, given_up)?;
+    let planned = records_notes(alloc, &read.list, settings, records, given_up)?;
+    joined(failed, planned)
 }

@@ -49,4 +49,3 @@ pub use messages::{message_of, message_with, push_indices, push_sentence};
 pub use numbers::{number_of, numbers_of, parts_of};
 pub use settings::{SettingsWords, limits_of, push_settings, settings_fault, settings_of};
 pub use unplanned::{Source, refuse_unplanned};
-pub use words::line_of_operation;

@@ -14,7 +14,7 @@ const LEFT: &str = "left out: ";
 
 /// What the first line of a text says that the list of a recording leaves out, if it is one.
 fn left_in<'a>(source: Source<'a>) -> Option<&'a str> {
-    let Source::Text(text) = source else {
+    let Source::Text(text, _) = source else {
         return None;
     };
     let said = comment_of(line_at(text, 1));

@@ -1,18 +1,16 @@
 //! A plan of pieces, explained in words, as a picture or as JSON.
 
-ghost use Rattle.std.specs.Prelude.{◌≡◌, [], IfOk, MatchResult, Err, string_bytes};
-ghost use Rattle.dsa_explain.specs.Explained.{Explains};
-ghost use Rattle.dsa_reasons.specs.declared.fences.Detail.TheVariants.{All as Every};
-ghost use Rattle.dsa_advice.specs.declared.form.Form.TheVariants.{Json, Picture, Waits, Words};
+ghost use Rattle.std.specs.Prelude.{◌≡◌, [], IfOk, string_bytes};
+ghost use Rattle.dsa_advice.specs.declared.form.Form.TheVariants.{Picture, Waits};
 ghost use Rattle.dsa_explain.specs.Runs.{labelling};
-ghost use Rattle.dsa_advice.specs.Shown.{AnswersSubject, SpellsPlan, TellsPlan, drawn_groups, too_many_groups, unlabelled, untracked};
+ghost use Rattle.dsa_advice.specs.Shown.{AnswersSubject, CanBeShown, SpellsPlan, TellsPlan, drawn_groups, too_many_groups, unlabelled, untracked};
 
 use crate::answer::Answer;
 use crate::form::Form;
 use dsa_descriptor::Descriptor;
 use dsa_explain::{
-    Buffer, Detail, ExplainFault, Labels, MOST_ROWS, Origin, PieceRange, View, WaitsFault, draw,
-    explain, explanation_line, explanation_text, group_waits, waits_text,
+    Buffer, Detail, Labels, MOST_ROWS, Origin, PieceRange, View, WaitsFault, draw, explain_legal,
+    explanation_line, explanation_text, group_waits, waits_text,
 };
 use dsa_plan::{Group, Plan, Settings};
 use dsa_sentences::TextCause;
@@ -59,12 +57,11 @@ pub(crate) fn plan_words(
     subject: &Subject<'_>,
     settings: &Settings,
     detail: Detail,
-) -> Result<String, ExplainFault>
-    ensures { MatchResult result
+) -> Result<String, AllocError>
+    requires { CanBeShown settings.now subject.now }
+    ensures { IfOk result
         (λ s. TellsPlan settings.now detail subject.now.plan.now subject.now.pieces.now
-        subject.now.barriers.now (labelling subject.now.labels) (string_bytes s))
-        (λ fault. Explains settings.now detail subject.now.pieces.now subject.now.barriers.now
-        subject.now.plan.now (Err fault)) }
+        subject.now.barriers.now (labelling subject.now.labels) (string_bytes s)) }
 {
     let Subject {
         plan,
@@ -72,33 +69,16 @@ pub(crate) fn plan_words(
         barriers,
         ..
     } = *subject;
-    let explanation = explain(alloc, plan, pieces, barriers, settings, detail)?;
-    match explanation_text(
+    let explanation = explain_legal(alloc, plan, pieces, barriers, settings, detail)?;
+    let text = explanation_text(
         alloc,
         &explanation,
         pieces,
         &subject.labels,
         settings,
         detail,
-    ) {
-        Ok(text) => Ok(text),
-        Err(_) => Err(ExplainFault::Memory),
-    }
-}
-
-/// The answer for a plan of pieces in words.
-fn answer_words(
-    alloc: Global,
-    subject: &Subject<'_>,
-    settings: &Settings,
-    detail: Detail,
-) -> Result<Answer, AllocError>
-    ensures { IfOk result (AnswersSubject settings.now subject.now (Words detail)) }
-{
-    match plan_words(alloc, subject, settings, detail) {
-        Ok(text) => Ok(Answer::done(text)),
-        Err(fault) => Answer::explain_fault(alloc, fault),
-    }
+    )?;
+    Ok(text)
 }
 
 /// What a plan of pieces does and why, as JSON.
@@ -106,13 +86,12 @@ fn plan_line(
     alloc: Global,
     subject: &Subject<'_>,
     settings: &Settings,
-) -> Result<String, ExplainFault>
-    ensures { MatchResult result
+) -> Result<String, AllocError>
+    requires { CanBeShown settings.now subject.now }
+    ensures { IfOk result
         (λ s. SpellsPlan settings.now subject.now.plan.now subject.now.pieces.now
         subject.now.barriers.now (labelling subject.now.labels) subject.now.least
-        (string_bytes s))
-        (λ fault. Explains settings.now Every subject.now.pieces.now subject.now.barriers.now
-        subject.now.plan.now (Err fault)) }
+        (string_bytes s)) }
 {
     let Subject {
         plan,
@@ -121,25 +100,9 @@ fn plan_line(
         least,
         ..
     } = *subject;
-    let explanation = explain(alloc, plan, pieces, barriers, settings, Detail::All)?;
-    match explanation_line(alloc, &explanation, pieces, &subject.labels, least) {
-        Ok(line) => Ok(line),
-        Err(_) => Err(ExplainFault::Memory),
-    }
-}
-
-/// The answer for a plan of pieces as JSON.
-fn answer_json(
-    alloc: Global,
-    subject: &Subject<'_>,
-    settings: &Settings,
-) -> Result<Answer, AllocError>
-    ensures { IfOk result (AnswersSubject settings.now subject.now Json) }
-{
-    match plan_line(alloc, subject, settings) {
-        Ok(line) => Ok(Answer::done(line)),
-        Err(fault) => Answer::explain_fault(alloc, fault),
-    }
+    let explanation = explain_legal(alloc, plan, pieces, barriers, settings, Detail::All)?;
+    let line = explanation_line(alloc, &explanation, pieces, &subject.labels, least)?;
+    Ok(line)
 }
 
 /// How many groups have a piece in the range.
@@ -184,6 +147,7 @@ fn answer_picture(
     settings: &Settings,
     range: PieceRange,
 ) -> Result<Answer, AllocError>
+    requires { CanBeShown settings.now subject.now }
     ensures { IfOk result (AnswersSubject settings.now subject.now (Picture range)) }
 {
     let Subject {
@@ -194,10 +158,7 @@ fn answer_picture(
         least,
         ..
     } = *subject;
-    let explanation = match explain(alloc, plan, pieces, barriers, settings, Detail::First) {
-        Ok(explanation) => explanation,
-        Err(fault) => return Answer::explain_fault(alloc, fault),
-    };
+    let explanation = explain_legal(alloc, plan, pieces, barriers, settings, Detail::First)?;
     let groups = drawn_groups(plan.groups(), range);
     if groups > MOST_ROWS {
         return too_many_groups(alloc, groups);
@@ -232,37 +193,31 @@ fn answer_waits(
     subject: &Subject<'_>,
     settings: &Settings,
 ) -> Result<Answer, AllocError>
+    requires { CanBeShown settings.now subject.now }
     ensures { IfOk result (AnswersSubject settings.now subject.now Waits) }
 {
-    let Subject {
-        plan,
-        pieces,
-        barriers,
-        ..
-    } = *subject;
-    if let Err(fault) = explain(alloc, plan, pieces, barriers, settings, Detail::First) {
-        return Answer::explain_fault(alloc, fault);
-    }
+    let Subject { plan, pieces, .. } = *subject;
     match group_waits(alloc, plan, pieces, settings.staging()) {
         Ok(waits) => Ok(Answer::done(waits_text(alloc, &waits)?)),
         Err(WaitsFault::Track(fault)) => untracked(alloc, fault),
-        Err(WaitsFault::Memory) => Answer::explain_fault(alloc, ExplainFault::Memory),
+        Err(WaitsFault::Memory) => Err(AllocError),
     }
 }
 
-/// The answer for a plan of pieces in a form.
+/// The answer for a plan of pieces in a form. Who calls it has planned or judged the plan.
 pub(crate) fn answer_plan(
     alloc: Global,
     subject: &Subject<'_>,
     settings: &Settings,
     form: Form,
 ) -> Result<Answer, AllocError>
+    requires { CanBeShown settings.now subject.now }
     ensures { IfOk result (AnswersSubject settings.now subject.now form) }
 {
     match form {
-        Form::Words(detail) => answer_words(alloc, subject, settings, detail),
+        Form::Words(detail) => Ok(Answer::done(plan_words(alloc, subject, settings, detail)?)),
         Form::Picture(range) => answer_picture(alloc, subject, settings, range),
-        Form::Json => answer_json(alloc, subject, settings),
+        Form::Json => Ok(Answer::done(plan_line(alloc, subject, settings)?)),
         Form::Waits => answer_waits(alloc, subject, settings),
     }
 }

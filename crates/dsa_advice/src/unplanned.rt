@@ -7,9 +7,9 @@ ghost use Rattle.dsa_advice.specs.Refusals.{IsRefusal};
 use crate::answer::Answer;
 use crate::notes::push_span;
 use crate::origins::count_of;
-use crate::words::line_of_operation;
 use dsa_calls::PlanFault;
 use dsa_descriptor::{Descriptor, MOST_PIECES, RECORD_LEN};
+use dsa_lines::{OperationLine, line_of_operation};
 use dsa_plan::{STAGED_LEN, Settings};
 use dsa_ranges::{Span, meets};
 use dsa_splitter::SplitFault;
@@ -18,8 +18,8 @@ use std::alloc::{AllocError, Global};
 /// Where operations come from.
 #[derive(Clone, Copy)]
 pub enum Source<'a> {
-    /// Lines of a text, with options.
-    Text(&'a [u8]),
+    /// A text and the lines of its operations, with options.
+    Text(&'a [u8], &'a [OperationLine<'a>]),
     /// The bytes of a list, with options.
     List,
     /// The list of a job, which has settings of its own.
@@ -46,7 +46,7 @@ impl Source<'_> {
     /// How the address of the staging area is given.
     fn staging(self) -> &'static str {
         match self {
-            Source::Text(_) | Source::List => "--staging",
+            Source::Text(_, _) | Source::List => "--staging",
             Source::Job => "`staging`",
         }
     }
@@ -54,7 +54,7 @@ impl Source<'_> {
     /// How the greatest transfer is given.
     fn transfer(self) -> &'static str {
         match self {
-            Source::Text(_) | Source::List => "--greatest-transfer",
+            Source::Text(_, _) | Source::List => "--greatest-transfer",
             Source::Job => "`greatest_transfer`",
         }
     }
@@ -205,7 +205,7 @@ fn push_cause(
 fn words_of(alloc: Global, given: Given<'_>, cause: SplitFault) -> Result<String, AllocError> {
     let mut text = String::new(alloc);
     let index = operation_at_fault(given, cause);
-    if let Source::Text(lines) = given.source {
+    if let Source::Text(_, lines) = given.source {
         let line = line_of_operation(lines, index);
         text.push_str(&format!(in alloc; "line {line}, ")?)?;
     }

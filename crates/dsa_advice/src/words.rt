@@ -2,7 +2,7 @@
 
 use dsa_descriptor::{FieldFault, ListFault};
 use dsa_forms::{InputKind, kind_of};
-use dsa_lines::{Expected, operation_bytes};
+use dsa_lines::Expected;
 use std::alloc::{AllocError, Global};
 
 /// The most bytes of a word that a message shows.
@@ -21,22 +21,6 @@ pub(crate) fn line_at(text: &[u8], line: usize) -> &[u8] {
     text.split(|byte| *byte == b'\n')
         .nth(line.saturating_sub(1))
         .unwrap_or(&[])
-}
-
-/// The number of the line, from 1 on, that has the operation of this index.
-pub fn line_of_operation(text: &[u8], index: usize) -> usize {
-    let mut before: usize = 0;
-    let mut number: usize = 1;
-    for line in text.split(|byte| *byte == b'\n') {
-        if let Ok(Some(_)) = operation_bytes(line) {
-            if before == index {
-                return number;
-            }
-            before = before.saturating_add(1);
-        }
-        number = number.saturating_add(1);
-    }
-    number
 }
 
 /// What is at a column of a line, both from 1 on: a word, a comma, or nothing at the end of the line.

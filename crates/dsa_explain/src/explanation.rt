@@ -1,8 +1,8 @@
 //! The explanation of a plan.
 
-ghost use Rattle.std.specs.Prelude.{◌≡◌};
+ghost use Rattle.std.specs.Prelude.{◌≡◌, IfOk};
 ghost use Rattle.dsa_explain.specs.declared.explanation.ExplainFault.TheVariants.{Memory};
-ghost use Rattle.dsa_explain.specs.Explained.{Explains};
+ghost use Rattle.dsa_explain.specs.Explained.{CanBeExplained, Explains, IsExplanationOf};
 
 use crate::cells::{Cell, lay_out};
 use dsa_descriptor::{Descriptor, MOST_PIECES};
@@ -54,8 +54,35 @@ impl From<AllocError> for ExplainFault {
     }
 }
 
-/// The explanation of a legal plan of the pieces and their barriers; each fence names the first of
+/// The explanation of a plan that is known to be legal for the pieces and their barriers; each fence names the first of
 /// its conflicts, or all. The mark of a piece says whether it begins after a barrier.
+///
+/// # Errors
+/// At the first allocation that fails.
+pub fn explain_legal(
+    alloc: Global,
+    plan: &Plan,
+    pieces: &[Descriptor],
+    barriers: &[bool],
+    settings: &Settings,
+    detail: Detail,
+) -> Result<Explanation, AllocError>
+    requires { CanBeExplained settings.now pieces.now barriers.now plan.now }
+    ensures { IfOk result
+        (IsExplanationOf settings.now detail pieces.now barriers.now plan.now) }
+{
+    let costs = plan_costs(alloc, plan, pieces.len(), settings)?;
+    let fences = fences_of(alloc, plan, pieces, barriers, detail)?;
+    let cells = lay_out(alloc, plan)?;
+    Ok(Explanation {
+        costs,
+        fences,
+        cells,
+        barriers: Vec::from_slice(alloc, barriers)?,
+    })
+}
+
+/// The same, if the plan is legal: for callers that have neither planned nor judged it.
 ///
 /// # Errors
 /// [`ExplainFault::TooManyPieces`] if there are more than [`MOST_PIECES`]; else
@@ -77,13 +104,5 @@ pub fn explain(
     if let Err(fault) = is_legal_with(plan, pieces, barriers, settings) {
         return Err(ExplainFault::Legal(fault));
     }
-    let costs = plan_costs(alloc, plan, pieces.len(), settings)?;
-    let fences = fences_of(alloc, plan, pieces, barriers, detail)?;
-    let cells = lay_out(alloc, plan)?;
-    Ok(Explanation {
-        costs,
-        fences,
-        cells,
-        barriers: Vec::from_slice(alloc, barriers)?,
-    })
+    Ok(explain_legal(alloc, plan, pieces, barriers, settings, detail)?)
 }

@@ -19,7 +19,7 @@ pub use dsa_descriptor::MOST_PIECES;
 pub use dsa_drawing::{Buffer, MOST_ROWS};
 pub use dsa_plan::{Costs, GroupCost, plan_costs};
 pub use dsa_reasons::{Detail, Fence, Reason, each_fence_once, fences_of, kind_text};
-pub use explanation::{ExplainFault, Explanation, explain};
+pub use explanation::{ExplainFault, Explanation, explain, explain_legal};
 pub use labels::{Labels, Origin};
 pub use laws::{cells_are_pieces_and_fences, group_costs_add_up, least_plans_save};
 pub use listing::explanation_text;

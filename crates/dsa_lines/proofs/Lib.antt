@@ -17,3 +17,4 @@ pub mod EmittedTexts
 pub mod ReadAgain
 pub mod RecordedAgain
 pub mod Marks
+pub mod Gathering

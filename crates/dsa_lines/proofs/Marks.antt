@@ -15,15 +15,15 @@ use Rattle.dsa_descriptor.specs.Spelling.{spelling}
 use Rattle.dsa_descriptor.proofs.Seen.{barriers_count}
 use Rattle.dsa_descriptor.specs.Fences.{with_fence, marked_spelling}
 use Rattle.dsa_descriptor.proofs.Fenced.{length-fenced_one, one_fenced}
-use Rattle.dsa_lines.specs.declared.barriers.LineKind.{LineKind}
-use Rattle.dsa_lines.specs.declared.barriers.LineKind.TheVariants.{Other, Barrier, Fenced, Operation}
 use Rattle.dsa_lines.specs.Assembled.{IsListing}
 use Rattle.dsa_lines.specs.Words.{Word, words_in, words_of}
 use Rattle.dsa_lines.specs.Grammar.{fields_of, op_at, ◌>>=◌}
 use Rattle.dsa_lines.specs.Recordings.{at_end, batch_at}
 use Rattle.dsa_lines.specs.Text.{line_text}
 use Rattle.dsa_lines.specs.Texts.{all_fields, line_fields, lines_of, text_line, TextSpells}
-use Rattle.dsa_lines.specs.Barriers.{barrier_line, barriers_of, IsMarkedListing, line_kind, line_marks, marked_text, marks_from, pending_after, OneMarkEach, OneMarkedSpelling, MarkedTextSpells}
+use Rattle.dsa_lines.specs.Barriers.{barrier_line, barriers_of, IsMarkedListing, LineKind, line_kind, line_marks, marked_text, marks_from, pending_after, OneMarkEach, OneMarkedSpelling, MarkedTextSpells}
+use Rattle.dsa_lines.specs.Barriers.LineKind.{Other, Barrier, Fenced, Operation}
+use Rattle.dsa_lines.specs.TextLists.{numbered, operation_lines, OneLineEach}
 use Rattle.dsa_lines.proofs.LineLemmas.{canonical_is_line}
 use Rattle.dsa_lines.proofs.OneText.{bound, front, more_fields, spelled_list}
 use Rattle.dsa_lines.proofs.ReadAgain.{line_before, nothing}
@@ -37,28 +37,9 @@ pub marks_next : (keep pending : Bool) (line : List ℕ) (lines : List (List ℕ
 unfolding marks_from
 marks_next keep pending line lines = refl
 
-no_marks : (keep pending : Bool) → marks_from keep pending [] ≡ []
+pub no_marks : (keep pending : Bool) → marks_from keep pending [] ≡ []
 unfolding marks_from
 no_marks keep pending = refl
-
-pub marks_step : (keep pending next : Bool) (before after whole : List Bool) (line : List ℕ) (all lines : List (List ℕ)) (kind : LineKind) → all ≡ line ∷ lines
-    → kind ≡ line_kind (words_of line) → next ≡ pending_after pending kind → after ≡ before ++ line_marks keep pending kind → before ++ marks_from keep pending all ≡ whole
-    → after ++ marks_from keep next lines ≡ whole
-marks_step keep pending next before after whole line all lines kind is e follows pushed so_far =
-    let here : line_marks keep pending kind ++ marks_from keep (pending_after pending kind) lines ≡ marks_from keep pending (line ∷ lines) =
-    ap (λ (k : LineKind). line_marks keep pending k ++ marks_from keep (pending_after pending k) lines) e ∙ sym (marks_next keep pending line lines) in
-    ap (λ (ms : List Bool). ms ++ marks_from keep next lines) pushed
-    ∙ append_assoc before (line_marks keep pending kind) (marks_from keep next lines)
-    ∙ ap (λ (p : Bool). before ++ (line_marks keep pending kind ++ marks_from keep p lines)) follows
-    ∙ ap (λ (ms : List Bool). before ++ ms) (here ∙ ap (marks_from keep pending) (sym is))
-    ∙ so_far
-
-pub marks_end : (keep pending : Bool) (before after whole : List Bool) (line : List ℕ) (all : List (List ℕ)) (kind : LineKind) → all ≡ line ∷ []
-    → kind ≡ line_kind (words_of line) → after ≡ before ++ line_marks keep pending kind → before ++ marks_from keep pending all ≡ whole → after ≡ whole
-marks_end keep pending before after whole line all kind is e pushed so_far =
-    sym (append-nil after)
-    ∙ ap (λ (ms : List Bool). after ++ ms) (sym (no_marks keep (pending_after pending kind)))
-    ∙ marks_step keep pending (pending_after pending kind) before after whole line all [] kind is e refl pushed so_far
 
 -- ---- the text of one operation more
 
@@ -137,6 +118,30 @@ lines_count keep pending (line ∷ lines) fs e =
 
 pub one_mark_each : OneMarkEach
 one_mark_each keep text fs e = lines_count keep false (lines_of text) fs e
+
+-- there are as many lines of operations as marks
+lines_numbered : (number : ℕ) (pending : Bool) (lines : List (List ℕ)) → length (operation_lines number lines) ≡ length (marks_from false pending lines)
+unfolding operation_lines marks_from
+lines_numbered number pending [] = refl
+lines_numbered number pending (line ∷ lines) =
+    let kind : LineKind = line_kind (words_of line) in
+    let rest = lines_numbered (number + 1) (pending_after pending kind) lines in
+    omega (
+      arith,
+      marks_alike kind,
+      rest,
+      length-append (numbered number line kind) (operation_lines (number + 1) lines),
+      length-append (line_marks false pending kind) (marks_from false (pending_after pending kind) lines),
+    )
+  where
+    marks_alike : (kind : LineKind) → length (numbered number line kind) ≡ length (line_marks false pending kind)
+    marks_alike Other = refl
+    marks_alike Barrier = refl
+    marks_alike Fenced = refl
+    marks_alike Operation = refl
+
+pub one_line_each : OneLineEach
+one_line_each text fs e = lines_numbered 1 false (lines_of text) ∙ one_mark_each false text fs e
 
 -- the barriers of a text are none, or there is a mark for each operation
 pub marks_count : (keep : Bool) (text : List ℕ) (ds : List Descriptor) (barriers : List Bool) → IsListing (lines_of text) (list_spelling (map fields ds)) → barriers ≡ barriers_of keep (lines_of text)

@@ -109,3 +109,8 @@ listed lines bytes fs ds e here found owner =
       one_owner = owner;
       bytes_are = found;
     }
+
+-- the same of the bytes of these descriptors
+pub listed_fields : (lines : List (List ℕ)) (bytes : List ℕ) (fs : List Fields) (ds : List Descriptor) → all_fields lines ≡ Some fs → bytes ≡ list_spelling fs
+    → bytes ≡ list_spelling (map fields ds) → HaveOneOwner (map fields ds) → IsListing lines (list_spelling (map fields ds))
+listed_fields lines bytes fs ds e here found owner = subst (IsListing lines) found (listed lines bytes fs ds e here found owner)

@@ -47,26 +47,14 @@ IsTextFault fault (Grammar line column what) = ⊥
 IsTextFault fault (Listed line listed) = (listed ≡ fault) × (fault ≢ ListMemory)
 IsTextFault fault Memory = fault ≡ ListMemory
 
--- why the bytes of lines are not gathered
+-- why lines spell no operations
 abbrev pub Stops : List (List ℕ) → TextFault → Type 0
 Stops lines (Grammar line column what) = LeavesGrammarAt lines line
 Stops lines (Listed line fault) = ⊥
 Stops lines Memory = ⊤
 
--- all bytes of what the lines spell
-abbrev pub Gathers : {X : Type 0} → (X → List ℕ) → List (List ℕ) → Result X TextFault → Type 0
-Gathers shown lines (Ok bytes) =
-    (fs : List Fields) × (all_fields lines ≡ Some fs) × (shown bytes ≡ list_spelling fs)
-Gathers shown lines (Err fault) = Stops lines fault
-
--- why the line of this number has no bytes; `read` is what it spells
+-- why the line of this number spells none; `read` is what it spells
 abbrev pub StopsAt : ℕ → Option (List Fields) → TextFault → Type 0
 StopsAt number read (Grammar line column what) = (line ≡ number) × (read ≡ None)
 StopsAt number read (Listed line fault) = ⊥
 StopsAt number read Memory = ⊤
-
--- the bytes of what was read, after those before
-abbrev pub Pushes : List ℕ → List ℕ → ℕ → Option (List Fields) → Result Unit TextFault → Type 0
-Pushes before after number read (Ok done) =
-    (fs : List Fields) × (read ≡ Some fs) × (after ≡ before ++ list_spelling fs)
-Pushes before after number read (Err fault) = StopsAt number read fault

@@ -10,14 +10,19 @@ use Rattle.dsa_descriptor.specs.Fences.{after_first, marked_spelling, set_marks}
 use Rattle.dsa_descriptor.specs.Fields.{Fields}
 use Rattle.dsa_descriptor.specs.Lists.{HaveOneOwner}
 use Rattle.dsa_descriptor.specs.Profile.{IsListed}
-use Rattle.dsa_lines.specs.declared.barriers.LineKind.{LineKind}
-use Rattle.dsa_lines.specs.declared.barriers.LineKind.TheVariants.{Other, Barrier, Fenced, Operation}
 use Rattle.dsa_lines.specs.declared.fault.TextFault.{TextFault}
 use Rattle.dsa_lines.specs.Words.{Word, words_of}
 use Rattle.dsa_lines.specs.Texts.{all_fields, lines_of, text_line, TextSpells}
 use Rattle.dsa_lines.specs.Assembled.{Assembles}
 
--- what a line of the grammar has, by its first word: a barrier, a fenced operation, an operation, or none of these
+-- what a line of the grammar has: a barrier, a fenced operation, an operation, or none of these
+pub data LineKind : Type 0 where
+  Other : LineKind
+  Barrier : LineKind
+  Fenced : LineKind
+  Operation : LineKind
+
+-- by its first word
 unfoldable pub line_kind : List Word → LineKind
 line_kind [] = Other
 line_kind (w ∷ ws) =

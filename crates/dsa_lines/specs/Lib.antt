@@ -13,3 +13,4 @@ pub mod Stagings
 pub mod EmittedTexts
 pub mod ReadAgain
 pub mod Barriers
+pub mod TextLists

@@ -2,6 +2,7 @@
 
 ghost use Rattle.std.specs.Prelude.{◌≡◌};
 ghost use Rattle.dsa_lines.specs.declared.fault.EmittedFault.TheVariants.{Memory};
+ghost use Rattle.dsa_lines.specs.declared.fault.TextFault.TheVariants.{Memory as TextMemory};
 
 use crate::words::skip_blanks;
 use dsa_descriptor::{FieldFault, ListFault};
@@ -128,7 +129,9 @@ impl fmt::Debug for TextFault {
 }
 
 impl From<AllocError> for TextFault {
-    fn from(_: AllocError) -> TextFault {
+    ghost from_gives = { λ _ fault. fault ≡ TextMemory };
+
+    fn from(_error: AllocError) -> TextFault {
         TextFault::Memory
     }
 }

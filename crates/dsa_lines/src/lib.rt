@@ -3,7 +3,6 @@
 #![tactic(auto)]
 
 mod assembling;
-mod barriers;
 mod disassembling;
 mod emitted_laws;
 mod fault;
@@ -11,6 +10,7 @@ mod fenced;
 mod laws;
 mod line;
 mod lines;
+mod list_line;
 mod numbers;
 mod operations;
 mod options;
@@ -21,31 +21,30 @@ mod recording;
 mod staged_record;
 mod staging;
 mod staging_laws;
+mod text_list;
 mod words;
 mod writing;
 
-pub use assembling::{assemble, parse_operations};
-pub use barriers::text_barriers;
+pub use assembling::{assemble, assemble_fenced};
 pub use disassembling::disassemble;
 pub use emitted_laws::emissions_have_texts;
 pub use fault::{EmittedFault, Expected, LineFault, TextFault};
-pub use fenced::{
-    assemble_fenced, marked_text_spells, one_mark_each, one_marked_spelling, parse_list,
-    text_with_barriers,
-};
+pub use fenced::{marked_text_spells, one_mark_each, one_marked_spelling, text_with_barriers};
 pub use laws::{
     canonical_line_spells, canonical_text_spells, one_line_no_newline, one_line_one_descriptor,
     one_text_one_list, spells_one, text_spells_one,
 };
+pub use list_line::operation_bytes;
 pub use numbers::{number_of, size_of};
 pub use portal::disassemble_portal;
 pub use portal_laws::{
     one_portal_shown, one_portal_text, portal_text_is_read, portal_text_is_recorded,
 };
 pub use reading::{line_bytes, parse_line};
-pub use recording::{assemble_recording, operation_bytes};
+pub use recording::assemble_recording;
 pub use staging::disassemble_staging;
 pub use staging_laws::{
     one_staging_shown, one_staging_text, staging_text_is_read, staging_text_is_recorded,
 };
+pub use text_list::{OperationLine, TextList, line_of_operation, one_line_each, parse_text};
 pub use writing::{line_of, op_text, operation_line};

@@ -1,15 +1,12 @@
-//! The bytes of a recording, from its lines; and those of an operation that a line of a list names.
+//! The bytes of a recording, from its lines.
 
-ghost use Rattle.std.specs.Prelude.{◌≡◌, [], ◌<◌, ◌^◌, ◌++◌, List, Some, None, take, true, false, MatchResult};
-ghost use Rattle.dsa_descriptor.specs.Fields.{Fields};
-ghost use Rattle.dsa_lines.specs.Answers.{HasOperation};
+ghost use Rattle.std.specs.Prelude.{◌≡◌, [], ◌<◌, ◌^◌, ◌++◌, take, true, false, MatchResult};
 ghost use Rattle.dsa_lines.specs.Words.{words_of};
 ghost use Rattle.dsa_lines.specs.Grammar.{Gives};
 ghost use Rattle.dsa_lines.specs.Texts.{lines_of};
 ghost use Rattle.dsa_lines.specs.declared.fault.TextFault.TheVariants.{Memory};
 ghost use Rattle.dsa_lines.specs.Recordings.{at_end, batch_at, entry_at, fenced_at, recorded_at, line_recorded, batch_bytes, first_owner, owned_bytes, Records, SaysLine, PushesRecorded};
 
-use crate::assembling::push_entry;
 use crate::fault::{Expected, Stop, TextFault};
 use crate::lines::line_len;
 use crate::reading::{after, named, number_at, read_line};
@@ -48,7 +45,7 @@ fn at_end(batch: BatchLine, text: &[u8]) -> Result<BatchLine, Stop>
 
 /// A batch, after its name.
 #[tactic(auto, unfolding(crate::specs::Recordings::batch_at))]
-fn batch_at(text: &[u8]) -> Result<BatchLine, Stop>
+pub(crate) fn batch_at(text: &[u8]) -> Result<BatchLine, Stop>
     ensures { Gives (λ x. x) result (batch_at (words_of text.now)) }
 {
     let rest = after(text, b"of", Expected::Of)?;
@@ -101,58 +98,6 @@ fn recorded_at(text: &[u8]) -> Result<Recorded, Stop>
     Ok(Recorded::Entry(entry))
 }
 
-/// Nothing, if the text has no word.
-fn nothing_in(text: &[u8]) -> Result<(), Stop>
-    ensures { MatchResult result
-        (λ _. at_end {A = List Fields} [] (words_of text.now) ≡ Some [])
-        (λ _. at_end {A = List Fields} [] (words_of text.now) ≡ None) }
-{
-    match next_word(text) {
-        None => Ok(()),
-        Some(_) => Err(Stop::at(text, Expected::End)),
-    }
-}
-
-/// The operation that a line names, in bytes; none for a line without words, of a batch, or of a
-/// barrier.
-#[tactic(auto, unfolding(crate::specs::Texts::line_fields))]
-fn operation_at(text: &[u8]) -> Result<Option<[u8; 64]>, Stop>
-    ensures { HasOperation (words_of text.now) result }
-{
-    let Some((word, rest)) = next_word(text) else {
-        return Ok(None);
-    };
-    if word == b"batch".as_slice() {
-        batch_at(rest)?;
-        return Ok(None);
-    }
-    if word == b"barrier".as_slice() {
-        nothing_in(rest)?;
-        return Ok(None);
-    }
-    if word == b"fence".as_slice() {
-        let line = read_line(rest)?;
-        return Ok(Some(line.bytes()));
-    }
-    let line = read_line(text)?;
-    Ok(Some(line.bytes()))
-}
-
-/// The 64 bytes of the operation that a line of a list names, which may be no listed descriptor. A
-/// line without words has none, nor has that of a batch or a barrier; `fence` before an operation
-/// is passed over. A text with a newline is no line.
-///
-/// # Errors
-/// The column, from 1 on, where the line leaves the grammar, and what was expected there.
-pub fn operation_bytes(text: &[u8]) -> Result<Option<[u8; 64]>, (usize, Expected)>
-    ensures { HasOperation (words_of text.now) result }
-{
-    match operation_at(text) {
-        Ok(found) => Ok(found),
-        Err(stop) => Err((stop.column(text), stop.expected)),
-    }
-}
-
 /// What a line says; nothing if it has no words.
 fn recorded_line(text: &[u8]) -> Result<Option<Recorded>, (usize, Expected)>
     ensures { SaysLine (words_of text.now) result }
@@ -171,6 +116,17 @@ fn owner_of(entry: &[u8; 64]) -> [u8; 4]
     ensures { result ≡ take 4 entry.now }
 {
     [entry[0], entry[1], entry[2], entry[3]]
+}
+
+/// Writes the bytes at the end.
+fn push_entry(bytes: &mut Vec<u8>, entry: &[u8]) -> Result<(), TextFault>
+    ensures { MatchResult result (λ _. bytes.new.items ≡ bytes.old.items ++
+        entry.now) (λ fault. fault ≡ Memory) }
+{
+    match bytes.extend_from_slice(entry) {
+        Ok(()) => Ok(()),
+        Err(_) => Err(TextFault::Memory),
+    }
 }
 
 /// Writes the entry of a batch of this owner at the end.

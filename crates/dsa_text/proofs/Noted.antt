@@ -23,8 +23,12 @@ use Rattle.dsa_text.specs.Inputs.{ExplainsContent, ExplainsInput, ExplainsOperat
 use Rattle.dsa_text.specs.Options.{IsFlag, range_of}
 use Rattle.dsa_text.specs.Taken.{said_in}
 use Rattle.dsa_text.specs.Recorded.{ExplainsRecording, is_audited, is_refused_audit}
-use Rattle.dsa_advice.specs.Refusals.{IsRefusal, NamesGrammar, RefusesText}
-use Rattle.dsa_advice.proofs.Answered.{both, plan_beside, refused_beside}
+use Rattle.dsa_advice.specs.Refusals.{IsRefusal, NamesCause, NamesGrammar, RefusesText}
+use Rattle.dsa_advice.proofs.Answered.{both, plan_beside}
+
+refused_beside : (fault : PlanFault) (a b : Answer) → b.status ≡ a.status → b.text ≡ a.text → IsRefusal fault a → IsRefusal fault b
+refused_beside fault a b status text r =
+    record { status = status ∙ r.status; cause = subst (λ (t : List ℕ). NamesCause fault t) (sym (ap string_bytes text)) r.cause }
 
 text_refused : (fault : TextFault) (a b : Answer) → b.status ≡ a.status → b.text ≡ a.text → RefusesText fault a → RefusesText fault b
 text_refused (Grammar line column what) a b status text r =

@@ -1,5 +1,5 @@
 -- The answer of `resume`, from its parts.
-use Rattle.std.proofs.Common.{◌≡◌, ◌⊎◌, inl, inr, ℕ, Bool, List, map, Result, Ok, Err, IfOk, sym, ap, ◌∙◌}
+use Rattle.std.proofs.Common.{◌≡◌, ◌⊎◌, inl, inr, ℕ, Bool, List, map, sym, ap, ◌∙◌}
 use Rattle.std.specs.Prelude.{Some, string_bytes}
 use Rattle.dsa_descriptor.specs.declared.descriptor.Descriptor.{Descriptor}
 use Rattle.dsa_descriptor.specs.Descriptors.{fields}
@@ -12,11 +12,6 @@ use Rattle.dsa_advice.specs.declared.answer.Answer.{Answer}
 use Rattle.dsa_resume.specs.declared.fault.ResumeFault.{ResumeFault}
 use Rattle.dsa_resume.specs.declared.fault.ResumeFault.TheVariants.{Plan, NotFailed, PassedBarrier, Records, SharedRecord}
 use Rattle.dsa_text.specs.Resumed.{IsListedText, IsResumeRefusal, NamesResume}
-
--- what holds of an answer
-pub if_ok_more : {E : Type 0} (P Q : Answer → Type 0) (r : Result Answer E) → ((a : Answer) → P a → Q a) → IfOk r P → IfOk r Q
-if_ok_more P Q (Ok a) more holds = more a holds
-if_ok_more P Q (Err e) more holds = tt
 
 -- the list of a text
 pub listed : (text : List ℕ) (keep : Bool) (ds : List Descriptor) (barriers : List Bool) → IsListing (lines_of text) (list_spelling (map fields ds)) → HaveOneOwner (map fields ds)

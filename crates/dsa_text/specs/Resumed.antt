@@ -36,7 +36,7 @@ IsResumeRefusal (NotFailed i) a = (a.status ≡ 1) × NamesResume (NotFailed i) 
 IsResumeRefusal (PassedBarrier i j) a = (a.status ≡ 1) × NamesResume (PassedBarrier i j) (string_bytes a.text)
 
 -- the canonical text of what is left
-pub record IsRestText (rest : Remainder) (a : Answer) : Type 0 where
+pub record IsRestText (rest : Remainder Descriptor) (a : Answer) : Type 0 where
   pub status : a.status ≡ 0
   pub lines : string_bytes a.text ≡ marked_text (map fields rest.pieces) rest.barriers
 
@@ -54,6 +54,6 @@ pub data ResumesText (text : List ℕ) (keep_fences : Bool) (s : Limits) (record
   is_refused : (ds : List Descriptor) (barriers : List Bool) (fault : ResumeFault) → IsListedText text keep_fences ds barriers
       → (fault ≡ Plan Memory) ⊎ ResumesOperations s (map fields ds) barriers records given_up order (Err fault)
       → IsResumeRefusal fault a → ResumesText text keep_fences s records given_up order a
-  has_left : (ds : List Descriptor) (barriers : List Bool) (rest : Remainder) → IsListedText text keep_fences ds barriers
+  has_left : (ds : List Descriptor) (barriers : List Bool) (rest : Remainder Descriptor) → IsListedText text keep_fences ds barriers
       → ResumesOperations s (map fields ds) barriers records given_up order (Ok rest)
       → IsRestText rest a → ResumesText text keep_fences s records given_up order a

@@ -4,41 +4,29 @@ use crate::inputs::refused_settings;
 use crate::options::settings_words;
 use clap::ArgMatches;
 use dsa_advice::{
-    Answer, Source, fence_lines, fenced_in, line_of_operation, push_settings, refuse_unplanned,
-    settings_of,
+    Answer, Source, fence_lines, fenced_in, push_settings, refuse_unplanned, settings_of,
 };
 use dsa_calls::PlanFault;
-use dsa_descriptor::{FieldFault, ListFault, read_list};
-use dsa_lines::{assemble, assemble_fenced, text_barriers};
+use dsa_descriptor::{FieldFault, ListFault};
+use dsa_lines::{OperationLine, TextList, assemble_fenced, line_of_operation};
 use dsa_plan::Settings;
 use dsa_splitter::pieces;
 use std::alloc::{AllocError, Global};
 
-/// The list of a text in hexadecimal, in which an operation after a barrier has the flag fence.
-/// `fence` in a line is a barrier if fences are kept.
-fn assemble_list(alloc: Global, text: &[u8], keep_fences: bool) -> Result<Answer, AllocError> {
-    match assemble_fenced(alloc, text, keep_fences) {
-        Ok(bytes) => {
-            let mut list = hex::encode(alloc, bytes)?;
-            list.push_str("\n")?;
-            let notes = passed_over(alloc, text, keep_fences)?;
-            Ok(Answer::done(list).with_warnings(notes))
-        }
-        Err(fault) => Answer::text_fault(alloc, text, fault),
-    }
+/// The list of these bytes in hexadecimal.
+fn list_answer(alloc: Global, list: &[u8]) -> Result<Answer, AllocError> {
+    let mut text = hex::encode(alloc, list)?;
+    text.push_str("\n")?;
+    Ok(Answer::done(text))
 }
 
 /// A line for each fence of a text that its list does not have.
 pub(crate) fn passed_over(
     alloc: Global,
-    text: &[u8],
-    keep_fences: bool,
+    read: &TextList<'_>,
 ) -> Result<Option<String>, AllocError> {
-    if keep_fences {
-        return Ok(None);
-    }
-    let fenced = fenced_in(alloc, text)?;
-    fence_lines(alloc, text, &fenced, "this fence is passed over")
+    let fenced = fenced_in(alloc, &read.lines, &read.list.barriers)?;
+    fence_lines(alloc, &read.lines, &fenced, "this fence is passed over")
 }
 
 /// The job to plan the list of these bytes.
@@ -51,32 +39,13 @@ fn job_of_list(alloc: Global, list: &[u8], settings: &Settings) -> Result<Answer
     Ok(Answer::done(job))
 }
 
-/// The job to plan the list of these bytes, which the text spells, if its operations can be split.
-fn job_of_text(
-    alloc: Global,
-    text: &[u8],
-    list: &[u8],
-    settings: &Settings,
-) -> Result<Answer, AllocError> {
-    let operations = match read_list(alloc, list) {
-        Ok(operations) => operations,
-        Err(fault) => return Answer::fault(alloc, PlanFault::from(fault)),
-    };
-    match pieces(alloc, &operations, settings) {
-        Ok(_) => job_of_list(alloc, list, settings),
-        Err(cause) => refuse_unplanned(
-            alloc,
-            &operations,
-            settings,
-            Source::Text(text),
-            PlanFault::from(cause),
-        ),
-    }
-}
-
 /// The refusal of a job whose list would have a barrier before this operation.
-fn barrier_in_job(alloc: Global, text: &[u8], operation: usize) -> Result<Answer, AllocError> {
-    let line = line_of_operation(text, operation);
+fn barrier_in_job(
+    alloc: Global,
+    lines: &[OperationLine<'_>],
+    operation: usize,
+) -> Result<Answer, AllocError> {
+    let line = line_of_operation(lines, operation);
     let place = format!(in alloc; "line {line}, operation {operation}: ")?;
     let mut words = String::from_str(alloc, &place)?;
     words.push_str("a job takes no barrier before an operation")?;
@@ -84,28 +53,32 @@ fn barrier_in_job(alloc: Global, text: &[u8], operation: usize) -> Result<Answer
     Answer::fault_with(alloc, PlanFault::from(fault), &words)
 }
 
-/// The job to plan the list of a text. A list that can't be planned, or has barriers, is refused
+/// The job to plan the list of a text, which has these bytes. One that can't be planned, or has barriers, is refused
 /// here, where its lines are known.
-fn assemble_job(
+fn job_answer(
     alloc: Global,
     text: &[u8],
-    keep_fences: bool,
+    read: &TextList<'_>,
+    list: &[u8],
     settings: &Settings,
 ) -> Result<Answer, AllocError> {
-    let list = match assemble(alloc, text) {
-        Ok(list) => list,
-        Err(fault) => return Answer::text_fault(alloc, text, fault),
-    };
-    let marks = text_barriers(alloc, text, keep_fences)?;
-    if let Some(operation) = marks.iter().position(|mark| *mark) {
-        return barrier_in_job(alloc, text, operation);
+    if let Some(operation) = read.list.barriers.iter().position(|mark| *mark) {
+        return barrier_in_job(alloc, &read.lines, operation);
     }
-    let answer = job_of_text(alloc, text, &list, settings)?;
-    let notes = passed_over(alloc, text, keep_fences)?;
-    Ok(answer.with_warnings(notes))
+    match pieces(alloc, &read.list.descriptors, settings) {
+        Ok(_) => job_of_list(alloc, list, settings),
+        Err(cause) => refuse_unplanned(
+            alloc,
+            &read.list.descriptors,
+            settings,
+            Source::Text(text, &read.lines),
+            PlanFault::from(cause),
+        ),
+    }
 }
 
-/// What `assemble` answers.
+/// What `assemble` answers: the bytes of a text's list, in which an operation after a barrier has the flag fence; or
+/// the job to plan it. `fence` in a line is a barrier if fences are kept.
 pub(crate) fn assemble_text(
     alloc: Global,
     matches: &ArgMatches<'_>,
@@ -116,9 +89,14 @@ pub(crate) fn assemble_text(
         return refused_settings(alloc, &words);
     };
     let keep_fences = matches.get_flag("keep-fences");
-    if matches.get_flag("job") {
-        assemble_job(alloc, text, keep_fences, &settings)
+    let (list, read) = match assemble_fenced(alloc, text, keep_fences) {
+        Ok(found) => found,
+        Err(fault) => return Answer::text_fault(alloc, text, fault),
+    };
+    let answer = if matches.get_flag("job") {
+        job_answer(alloc, text, &read, &list, &settings)?
     } else {
-        assemble_list(alloc, text, keep_fences)
-    }
+        list_answer(alloc, &list)?
+    };
+    Ok(answer.with_warnings(passed_over(alloc, &read)?))
 }

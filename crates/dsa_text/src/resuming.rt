@@ -16,9 +16,9 @@ use dsa_advice::{
     Answer, bytes_or_refusal, joined, numbers_of, push_indices, push_sentence, resume_notes,
     settings_of,
 };
-use dsa_descriptor::MOST_PIECES;
+use dsa_descriptor::{Descriptor, MOST_PIECES};
 use dsa_forms::is_text;
-use dsa_lines::{parse_list, text_with_barriers};
+use dsa_lines::{TextList, parse_text, text_with_barriers};
 use dsa_plan::Settings;
 use dsa_resume::{LeftOrder, Rest, ResumeFault, resume_operations};
 use std::alloc::{AllocError, Global};
@@ -114,40 +114,44 @@ fn given_up_of(alloc: Global, word: Option<&str>) -> Result<Option<Vec<u8>>, All
     }
 }
 
-/// The lines of what is left of the list that a text spells.
-fn resume_text(
+/// The lines of what is left of the list that a text spells, and what the text lists, if it spells a list.
+fn resume_text<'a>(
     alloc: Global,
-    text: &[u8],
+    text: &'a [u8],
     keep_fences: bool,
     settings: &Settings,
     records: &[u8],
     given_up: &[u8],
     order: LeftOrder,
-) -> Result<Answer, AllocError>
-    ensures { IfOk result (ResumesText text.now keep_fences settings.now records.now
-        given_up.now order) }
+) -> Result<(Answer, Option<TextList<'a>>), AllocError>
+    ensures { IfOk result (λ found. ResumesText text.now keep_fences settings.now records.now
+        given_up.now order found.0) }
 {
-    let list = match parse_list(alloc, text, keep_fences) {
-        Ok(list) => list,
-        Err(fault) => return Answer::text_fault(alloc, text, fault),
+    let read = match parse_text(alloc, text, keep_fences) {
+        Ok(read) => read,
+        Err(fault) => return Ok((Answer::text_fault(alloc, text, fault)?, None)),
     };
-    match resume_operations(alloc, &list, settings, records, given_up, order) {
-        Ok(rest) => rest_answer(alloc, &rest, records),
-        Err(fault) => fault_answer(alloc, fault),
+    match resume_operations(alloc, &read.list, settings, records, given_up, order) {
+        Ok(rest) => Ok((rest_answer(alloc, &rest, records)?, Some(read))),
+        Err(fault) => Ok((fault_answer(alloc, fault)?, Some(read))),
     }
 }
 
 /// The lines of what is left, with a note on what is left out.
-fn rest_answer(alloc: Global, rest: &Rest, records: &[u8]) -> Result<Answer, AllocError>
+fn rest_answer(alloc: Global, rest: &Rest<Descriptor>, records: &[u8]) -> Result<Answer, AllocError>
     ensures { IfOk result (IsRestText (remainder_of rest.now)) }
 {
-    let lines = text_with_barriers(alloc, &rest.list.descriptors, &rest.list.barriers)?;
+    let lines = text_with_barriers(alloc, &rest.pieces, &rest.barriers)?;
     let note = left_out_note(alloc, rest, records)?;
     Ok(Answer::done(lines).with_warnings(note))
 }
 
 /// What is said of the pieces that are left out.
-fn left_out_note(alloc: Global, rest: &Rest, records: &[u8]) -> Result<Option<String>, AllocError> {
+fn left_out_note(
+    alloc: Global,
+    rest: &Rest<Descriptor>,
+    records: &[u8],
+) -> Result<Option<String>, AllocError> {
     let Some(out) = rest.left_out else {
         return Ok(None);
     };
@@ -223,10 +227,13 @@ fn resume_records(
         return Ok(Answer::refused(String::from_str(alloc, NO_PIECES)?));
     };
     let keep = matches.get_flag("keep-fences");
-    let answer = resume_text(alloc, text, keep, settings, records, &given_up, order)?;
-    let notes = resume_notes(alloc, text, keep, settings, records, &given_up)?;
+    let (answer, read) = resume_text(alloc, text, keep, settings, records, &given_up, order)?;
+    let Some(read) = read else {
+        return Ok(answer);
+    };
+    let notes = resume_notes(alloc, &read, settings, records, &given_up)?;
     if answer.status == 0 {
-        return with_notes(answer, joined(passed_over(alloc, text, keep)?, notes)?);
+        return with_notes(answer, joined(passed_over(alloc, &read)?, notes)?);
     }
     let mut reason = answer.text;
     if let Some(notes) = notes {

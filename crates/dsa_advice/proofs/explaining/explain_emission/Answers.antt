@@ -7,7 +7,7 @@ use Rattle.dsa_calls.proofs.BytesChecked.{descriptors_emission}
 use Rattle.dsa_calls.proofs.CheckedOnce.{one_plan_checked, plain_by, plain_checked}
 use Rattle.dsa_advice.specs.Explained.{is_refused_check, is_checked}
 use Rattle.dsa_advice.specs.Shown.{unlabelled}
-use Rattle.dsa_advice.proofs.Answered.{subject_answered, same_cause}
+use Rattle.dsa_advice.proofs.Answered.{checked_can, subject_answered, subject_can, same_cause}
 use Rattle.dsa_advice.proofs.explaining.explain_emission.Goals as goal
 
 pub returns-in-Ok-clause-answer : goal.returns-in-Ok-clause-answer
@@ -32,3 +32,8 @@ returns-in-Err-clause-refused c = λ fault checks.
     (one_plan_checked c.args.settings.now (map fields c.args.pieces.now) c.args.plan.now (contents c.args.certificate.now) (Err c.in-Err.fault) (Err fault)
     (plain_checked c.args.settings.now c.args.pieces.now c.args.plan.now (contents c.args.certificate.now) (Err c.in-Err.fault) c.in-Err.ensures) checks)
     refl refl c.fault.ensures
+
+pub answer_plan-requires : goal.answer_plan-requires
+answer_plan-requires c =
+    subject_can c.args.settings.now c.plain.result c.args.plan.now c.args.pieces.now [] c.plain.ensures.plan c.plain.ensures.pieces c.plain.ensures.barriers
+    (checked_can c.args.pieces.now c.args.plan.now c.args.settings.now (contents c.args.certificate.now) c.in-Ok.cost c.requires c.in-Ok.ensures)

@@ -1,11 +1,12 @@
-use Rattle.std.proofs.Common.{inr, List, Err, Ok, map, refl, subst}
+use Rattle.std.proofs.Common.{inr, List, [], Err, Ok, map, refl, subst}
 use Rattle.std.proofs.lemmas.Result.{IfOk-weaker}
 use Rattle.dsa_descriptor.specs.declared.descriptor.Descriptor.{Descriptor}
 use Rattle.dsa_descriptor.specs.Descriptors.{fields}
 use Rattle.dsa_calls.specs.Judge.{JudgesPieces}
 use Rattle.dsa_calls.proofs.JudgedOnce.{one_judged_pieces, plain_judged}
 use Rattle.dsa_advice.specs.Explained.{is_refused_judge, is_judged}
-use Rattle.dsa_advice.proofs.Answered.{same_cause}
+use Rattle.dsa_explain.specs.Explained.{CanBeExplained}
+use Rattle.dsa_advice.proofs.Answered.{judged_can, same_cause}
 use Rattle.dsa_advice.proofs.judging.explain_pieces.Goals as goal
 use Rattle.dsa_advice.proofs.judging.explain_pieces.Goals.{After-answer_judged, After-refuse_judged}
 
@@ -37,3 +38,8 @@ returns-in-Err-clause-refused c = λ fault judges.
     same_cause c.refuse_judged.result c.in-Err.fault fault (Err c.in-Err.fault) (Err fault)
     (one_judged_pieces (map fields c.args.list.now.descriptors.items) c.args.plan.now c.args.settings.now (Err c.in-Err.fault) (Err fault) (said_err c) judges)
     refl refl c.refuse_judged.ensures
+
+pub answer_judged-requires-clause-can : goal.answer_judged-requires-clause-can
+answer_judged-requires-clause-can c =
+    subst (λ (ds : List Descriptor). CanBeExplained c.args.settings.now ds [] c.args.plan.now) c.deref.ensures.value
+    (judged_can c.deref.result.now c.args.plan.now c.args.settings.now c.in-Ok.cost c.in-Ok.ensures)

@@ -161,7 +161,7 @@ found_upto assumed es s number a (suc k) is le =
                       fits_missing k ms (IsLeft (OrderMatters a.actions.items ms) (IsListedPair assumed.accepted (members_in es s) ms) a.fences.items) a.fences.items a.audit.corrected.fences.items p
                           (λ i c. c.0.0) lt holds,
                       (
-                        fits_use k a.is_batch ms (PossibleConflict a.members.items) a.fallible.items a.visible.items is.audit.reduced.held a.audit.corrected.fences.items a.audit.reduced.fences.items u
+                        fits_use k a.is_batch ms (PossibleConflict a.members.items) is.fallible is.visible is.audit.reduced.held a.audit.corrected.fences.items a.audit.reduced.fences.items u
                             (omega (arith, members, operands, has.places, places, more)) used,
                         tt,
                       ),

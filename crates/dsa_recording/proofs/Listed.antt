@@ -25,6 +25,7 @@ use Rattle.dsa_audit.specs.declared.member.Member.{Member}
 use Rattle.dsa_audit.specs.declared.member.Member.TheVariants.{Known, Unknown}
 use Rattle.dsa_recording.specs.declared.further.Further.{Further}
 use Rattle.dsa_recording.specs.Furthers.{further_at}
+use Rattle.dsa_recording.specs.declared.member.Aspect.TheVariants.{Whole}
 use Rattle.dsa_recording.specs.Entries.{sources_of, targets_of, entry_reads, entry_writes, Applies, IsMember}
 
 -- one span more
@@ -105,11 +106,11 @@ none f head h agree Wrap applies =
     let all : entry_reads (spelling f) ++ entry_writes (spelling f) ≡ read_spans f ++ written_spans f = rw (reads f h, writes f h) refl in
     applies (subst (AllByRecursion IsAddressable) (sym all) (with_one (sources f.op f.size) (targets f.op f.size) (record_span f.record_at) h.record_addressable h.data_addressable))
 
-known : (f : Fields) (head : List ℕ) (m : Member) → IsListed f → AgreeOnOwner head (spelling f) → IsMember head (spelling f) m
+known : (f : Fields) (head : List ℕ) (m : Member) → IsListed f → AgreeOnOwner head (spelling f) → IsMember Whole head (spelling f) m
     → (t : Touched) × (m ≡ Known t) × (t.reads.items ≡ read_spans f) × (t.writes.items ≡ written_spans f)
 known f head (Known t) h agree is = (t, refl, is.1 ∙ reads f h, is.2 ∙ writes f h)
 known f head (Unknown why) h agree is = absurd (none f head h agree why is.applies)
 
-pub listed_are_known : (d : Descriptor) (head : List ℕ) (m : Member) → AgreeOnOwner head (spelling (fields d)) → IsMember head (spelling (fields d)) m
+pub listed_are_known : (d : Descriptor) (head : List ℕ) (m : Member) → AgreeOnOwner head (spelling (fields d)) → IsMember Whole head (spelling (fields d)) m
     → (t : Touched) × (m ≡ Known t) × (t.reads.items ≡ read_spans (fields d)) × (t.writes.items ≡ written_spans (fields d))
 listed_are_known d head m agree is = known (fields d) head m d.listed agree is

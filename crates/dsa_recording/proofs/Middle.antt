@@ -15,7 +15,8 @@ use Rattle.dsa_recording.specs.Showing.{AreVisible}
 use Rattle.dsa_recording.specs.Entries.{action_of}
 use Rattle.dsa_recording.specs.Streams.{submission_at, end_of, ReadsUpTo}
 use Rattle.dsa_descriptor.specs.Fences.{is_fenced}
-use Rattle.dsa_recording.specs.Submissions.{head_at, members_in, AreMembers, AreOperands, AreShared, IsAudited, AreAudited}
+use Rattle.dsa_recording.specs.declared.member.Aspect.TheVariants.{Whole, Data}
+use Rattle.dsa_recording.specs.Submissions.{head_at, members_in, AreMembers, AreShared, IsAudited, AreAudited}
 use Rattle.dsa_recording.proofs.Within.{head_of}
 
 -- ---- entries of bytes
@@ -133,16 +134,18 @@ audited_same assumed es other s t a batch head members is = record {
   is_head_misaligned = subst (λ (h : List ℕ). IsTrue a.is_head_misaligned ↔ HasMisalignedRecord h) head is.is_head_misaligned;
   fences = is.fences ∙ ap (map is_fenced) members;
   members =
-      subst (λ (h : List ℕ). AreMembers h (members_in other t) a.members.items) head
-      (subst (λ (ms : List (List ℕ)). AreMembers (slice_index_or es (head_at s) []) ms a.members.items) members is.members);
-  fallible = subst (λ (ms : List (List ℕ)). AreFallible assumed.assumptions a.members.items ms a.fallible.items) members is.fallible;
-  visible =
-      subst (λ (h : List ℕ). AreVisible assumed.assumptions h a.members.items (members_in other t) a.visible.items) head
-      (subst (λ (ms : List (List ℕ)). AreVisible assumed.assumptions (slice_index_or es (head_at s) []) a.members.items ms a.visible.items) members is.visible);
+      subst (λ (h : List ℕ). AreMembers Whole h (members_in other t) a.members.items) head
+      (subst (λ (ms : List (List ℕ)). AreMembers Whole (slice_index_or es (head_at s) []) ms a.members.items) members is.members);
+  fallible = is.fallible;
+  visible = is.visible;
+  are_fallible = subst (λ (ms : List (List ℕ)). AreFallible assumed.assumptions a.members.items ms is.fallible) members is.are_fallible;
+  are_visible =
+      subst (λ (h : List ℕ). AreVisible assumed.assumptions h a.members.items (members_in other t) is.visible) head
+      (subst (λ (ms : List (List ℕ)). AreVisible assumed.assumptions (slice_index_or es (head_at s) []) a.members.items ms is.visible) members is.are_visible);
   actions = is.actions ∙ ap (map action_of) members;
   operands =
-      subst (λ (h : List ℕ). AreOperands h (members_in other t) a.operands.items) head
-      (subst (λ (ms : List (List ℕ)). AreOperands (slice_index_or es (head_at s) []) ms a.operands.items) members is.operands);
+      subst (λ (h : List ℕ). AreMembers Data h (members_in other t) a.operands.items) head
+      (subst (λ (ms : List (List ℕ)). AreMembers Data (slice_index_or es (head_at s) []) ms a.operands.items) members is.operands);
   shared =
       subst (λ (h : List ℕ). AreShared h (members_in other t) a.shared.items) head
       (subst (λ (ms : List (List ℕ)). AreShared (slice_index_or es (head_at s) []) ms a.shared.items) members is.shared);
@@ -151,7 +154,7 @@ audited_same assumed es other s t a batch head members is = record {
       (subst (λ (h : List ℕ). AreAllFlaws s.is_batch h (members_in other t) a.flaws.items) head
       (subst (λ (ms : List (List ℕ)). AreAllFlaws s.is_batch (slice_index_or es (head_at s) []) ms a.flaws.items) members is.flaws));
   audit =
-      subst (λ (ms : List (List ℕ)). IsAudit (IsListedPair assumed.accepted ms a.operands.items) a.actions.items a.operands.items a.members.items a.fallible.items a.visible.items a.fences.items a.audit)
+      subst (λ (ms : List (List ℕ)). IsAudit (IsListedPair assumed.accepted ms a.operands.items) a.actions.items a.operands.items a.members.items is.fallible is.visible a.fences.items a.audit)
       members is.audit;
 }
 

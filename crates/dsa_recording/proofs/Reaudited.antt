@@ -2,9 +2,8 @@
 use Rattle.std.proofs.Common.{◌≡◌, ℕ, zero, suc, ◌+◌, ◌<◌, ◌≤◌, Bool, true, false, cond, Option, Some, None, List, [], ◌∷◌, ◌++◌, length, get_or, take, refl, sym, ap, subst, ◌∙◌, arith}
 use Rattle.std.specs.Prelude.{if◌then◌else◌, nat_lt, slice_index_or}
 use Rattle.std.specs.List.{count_by}
-use Rattle.std.proofs.lemmas.List.{take_all, with_items_is}
+use Rattle.std.proofs.lemmas.List.{take_all}
 use Rattle.std.proofs.lemmas.List.Sums.{count_by_more_no, count_by_more_yes, sum_by-append, sum_by-cons}
-use Rattle.std.specs.Vec.{with_items}
 use Rattle.dsa_audit.specs.declared.member.Member.{Member as KnownMember}
 use Rattle.dsa_audit.specs.declared.member.Member.TheVariants as member
 use Rattle.dsa_audit.specs.declared.member.Unseen.TheVariants.{Operation}
@@ -29,8 +28,8 @@ use Rattle.dsa_recording.specs.declared.submission.Audited.{Audited}
 use Rattle.dsa_recording.specs.Findings.{HasAll, all_found, finding_of, findings_upto, flaw_kind, head_findings, head_kinds, member_kinds, missing_kind, recording_findings, repeated_kind, shared_kind, submission_findings, unseen_kind, use_kind, accepted_kind}
 use Rattle.dsa_recording.specs.Flaws.{no_flaws}
 use Rattle.dsa_recording.specs.Freed.{AreNeedless, HasNeedless, IsReducedUnder, is_needless_use, needless_count, needless_of}
-use Rattle.dsa_recording.specs.Failures.{AreFallible, can_fail}
-use Rattle.dsa_recording.specs.Showing.{AreVisible, can_show}
+use Rattle.dsa_recording.specs.Failures.{can_fail}
+use Rattle.dsa_recording.specs.Showing.{can_show}
 use Rattle.dsa_recording.specs.Submissions.{AreAudited, IsAudited, head_at, members_in}
 use Rattle.dsa_audit.specs.Members.{PossibleConflict}
 use Rattle.dsa_recording.specs.Totals.{is_needless}
@@ -44,19 +43,17 @@ use Rattle.dsa_recording.proofs.Within.{has_all}
 pub reaudited : (accepted : Accepted) (assumed other : Assumptions) (es : List (List ℕ)) (s : Submission) (a : Audited) (r : Reduced) (n : ℕ) → IsAudited (terms accepted assumed) es s a → IsReducedUnder other es s a r
     → n ≡ needless_of a.is_batch r.uses.items → HasNeedless (terms accepted other) es s n
 reaudited accepted assumed other es s a r n is u e = (
-  record a {
-    fallible = u.fallible;
-    visible = u.visible;
-    audit = record a.audit { reduced = r };
-  },
+  record a { audit = record a.audit { reduced = r } },
   record {
     is_batch = is.is_batch;
     is_head_fenced = is.is_head_fenced;
     is_head_misaligned = is.is_head_misaligned;
     fences = is.fences;
     members = is.members;
-    fallible = u.are_fallible;
-    visible = u.are_visible;
+    fallible = u.fallible;
+    visible = u.visible;
+    are_fallible = u.are_fallible;
+    are_visible = u.are_visible;
     actions = is.actions;
     operands = is.operands;
     shared = is.shared;
@@ -284,24 +281,22 @@ unfenced accepted assumed other es s a is before none =
     let u = is.audit.reduced in
     let failing = listed (length own) (λ (k : ℕ). can_fail other (get_or ms k (member.Unknown Operation)) (get_or own k [])) in
     let showing = listed (length own) (λ (k : ℕ). can_show other head (get_or ms k (member.Unknown Operation)) (get_or own k [])) in
-    let failing_is : (with_items a.fallible failing.0).items ≡ failing.0 = with_items_is a.fallible failing.0 (omega (arith, failing.1, is.fallible.count, a.fallible.ok.0)) in
-    let showing_is : (with_items a.visible showing.0).items ≡ showing.0 = with_items_is a.visible showing.0 (omega (arith, showing.1, is.visible.count, a.visible.ok.0)) in
     reaudited accepted assumed other es s a a.audit.reduced 0 is (record {
-      fallible = with_items a.fallible failing.0;
-      visible = with_items a.visible showing.0;
-      are_fallible = subst (λ (bs : List Bool). AreFallible other ms own bs) (sym failing_is) (record { count = failing.1; each = failing.2 });
-      are_visible = subst (λ (bs : List Bool). AreVisible other head ms own bs) (sym showing_is) (record { count = showing.1; each = showing.2 });
+      fallible = failing.0;
+      visible = showing.0;
+      are_fallible = record { count = failing.1; each = failing.2 };
+      are_visible = record { count = showing.1; each = showing.2 };
       reduced = record {
         uses_before = u.uses_before;
         stay = u.stay;
-        needed = reduced_unset (PossibleConflict ms) a.fallible.items a.visible.items (with_items a.fallible failing.0).items (with_items a.visible showing.0).items []
+        needed = reduced_unset (PossibleConflict ms) is.fallible is.visible failing.0 showing.0 []
             a.audit.unaccepted.fences.items u.stay u.uses_before before u.needed;
         held = u.held;
         are_held = u.are_held;
-        reduced = reduced_unset (PossibleConflict ms) a.fallible.items a.visible.items (with_items a.fallible failing.0).items (with_items a.visible showing.0).items u.held
+        reduced = reduced_unset (PossibleConflict ms) is.fallible is.visible failing.0 showing.0 u.held
             a.audit.corrected.fences.items a.audit.reduced.fences.items a.audit.reduced.uses.items none u.reduced;
       };
-    }) (sym (uses_unset (PossibleConflict ms) a.fallible.items a.visible.items u.held a.audit.corrected.fences.items a.audit.reduced.fences.items a.audit.reduced.uses.items none u.reduced a.is_batch))
+    }) (sym (uses_unset (PossibleConflict ms) is.fallible is.visible u.held a.audit.corrected.fences.items a.audit.reduced.fences.items a.audit.reduced.uses.items none u.reduced a.is_batch))
 
 -- ---- submission by submission
 

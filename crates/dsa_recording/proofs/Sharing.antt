@@ -6,7 +6,8 @@ use Rattle.dsa_conflicts.proofs.Greatest.{greatest_either, greatest_same}
 use Rattle.dsa_audit.specs.declared.member.Member.{Member}
 use Rattle.dsa_audit.specs.Members.{KnownConflict}
 use Rattle.dsa_audit.specs.Steps.{AreLasts}
-use Rattle.dsa_recording.specs.Submissions.{AreRecords, AreShared, AreStatuses}
+use Rattle.dsa_recording.specs.declared.member.Aspect.TheVariants.{Record, Status}
+use Rattle.dsa_recording.specs.Submissions.{AreMembers, AreShared}
 
 pub lasts_of_either : (C D : ℕ → ℕ → Type 0) (firsts seconds lasts : List (Option ℕ)) → length seconds ≡ length firsts → length lasts ≡ length firsts
     → ((k : ℕ) → k < length firsts → get_or lasts k None ≡ later (get_or firsts k None) (get_or seconds k None))
@@ -34,7 +35,7 @@ lasts_of_either C D firsts seconds lasts count same each first second = λ b las
 
 -- the entries that share records, from the last conflicts of records and of statuses
 pub shared_of : (head : List ℕ) (es : List (List ℕ)) (records statuses : List Member) (firsts seconds shared : List (Option ℕ))
-    → AreRecords head es records → AreStatuses head es statuses → length firsts ≡ length records → AreLasts (KnownConflict records) firsts
+    → AreMembers Record head es records → AreMembers Status head es statuses → length firsts ≡ length records → AreLasts (KnownConflict records) firsts
     → length seconds ≡ length statuses → AreLasts (KnownConflict statuses) seconds → length shared ≡ length firsts
     → ((k : ℕ) → k < length firsts → get_or shared k None ≡ later (get_or firsts k None) (get_or seconds k None)) → AreShared head es shared
 shared_of head es records statuses firsts seconds shared are others count first count' second same each =

@@ -10,6 +10,8 @@ use Rattle.dsa_descriptor.specs.Places.{u32_at, u64_at, flags_at, code_at, op_at
 use Rattle.dsa_descriptor.specs.Spans.{IsAddressable}
 use Rattle.dsa_audit.specs.declared.repeats.Action.{Action}
 use Rattle.dsa_recording.specs.declared.further.Further.{Further}
+use Rattle.dsa_recording.specs.declared.member.Aspect.{Aspect}
+use Rattle.dsa_recording.specs.declared.member.Aspect.TheVariants as aspects
 use Rattle.dsa_recording.specs.Furthers.{further_at, read_by, written_by}
 use Rattle.dsa_audit.specs.declared.member.Unseen.{Unseen}
 use Rattle.dsa_audit.specs.declared.member.Unseen.TheVariants.{Blank, Operation, Nested, Owner, Empty, Wrap}
@@ -112,26 +114,24 @@ pub record IsFirstReason (head e : List ℕ) (why : Unseen) : Type 0 where
   pub applies : Applies head e why
   pub first : (other : Unseen) → rank other < rank why → ¬ Applies head e other
 
--- where no reason applies, the member reads and writes these spans of the entry; else it has the first reason
-abbrev pub IsKnownAs : List Span → List Span → List ℕ → List ℕ → Member → Type 0
-IsKnownAs reads writes head e (Known touched) =
-    ((why : Unseen) → ¬ Applies head e why) × (touched.reads.items ≡ reads) × (touched.writes.items ≡ writes)
-IsKnownAs reads writes head e (Unknown why) = IsFirstReason head e why
+-- what an entry reads in this respect
+abbrev pub reads_in : Aspect → List ℕ → List Span
+reads_in aspects.Whole e = entry_reads e
+reads_in aspects.Data e = entry_reads e
+reads_in aspects.Record e = entry_targets e
+reads_in aspects.Status e = entry_reads e
 
--- all that is known of the entry
-abbrev pub IsMember : List ℕ → List ℕ → Member → Type 0
-IsMember head e m = IsKnownAs (entry_reads e) (entry_writes e) head e m
+-- what it writes: all; its data, with the value of a checksum; its record; its record as a status alone
+abbrev pub writes_in : Aspect → List ℕ → List Span
+writes_in aspects.Whole e = entry_writes e
+writes_in aspects.Data e = entry_results e
+writes_in aspects.Record e = records_of e
+writes_in aspects.Status e = status_records e
 
--- its data alone
-abbrev pub IsOperands : List ℕ → List ℕ → Member → Type 0
-IsOperands head e m = IsKnownAs (entry_reads e) (entry_results e) head e m
-
--- its record as written, and the data that it writes as read: two such members conflict exactly if the record of one meets
--- the record of the other, or data that the other writes
-abbrev pub IsRecord : List ℕ → List ℕ → Member → Type 0
-IsRecord head e m = IsKnownAs (entry_targets e) (records_of e) head e m
-
--- its record as written, if that is a status alone, and the data that it reads: two such members conflict if one reads the
--- status of the other
-abbrev pub IsStatus : List ℕ → List ℕ → Member → Type 0
-IsStatus head e m = IsKnownAs (entry_reads e) (status_records e) head e m
+-- where no reason applies, the member reads and writes this of the entry; else it has the first reason. Two members conflict
+-- by their records exactly if the record of one meets the record of the other, or data that the other writes; and by their
+-- statuses if one reads the status of the other
+abbrev pub IsMember : Aspect → List ℕ → List ℕ → Member → Type 0
+IsMember aspect head e (Known touched) =
+    ((why : Unseen) → ¬ Applies head e why) × (touched.reads.items ≡ reads_in aspect e) × (touched.writes.items ≡ writes_in aspect e)
+IsMember aspect head e (Unknown why) = IsFirstReason head e why

@@ -1,6 +1,5 @@
 -- How many more fences would be needless if more were assumed (this project's choice).
-use Rattle.std.specs.Prelude.{ℕ, ◌≡◌, ◌-◌, Bool, true, false, List, [], Vec, if◌then◌else◌, slice_index_or}
-use Rattle.std.specs.Global.{Global}
+use Rattle.std.specs.Prelude.{ℕ, ◌≡◌, ◌-◌, Bool, true, false, List, [], if◌then◌else◌, slice_index_or}
 use Rattle.std.specs.List.{count_by}
 use Rattle.dsa_audit.specs.declared.needless.FenceUse.{FenceUse}
 use Rattle.dsa_audit.specs.declared.needless.FenceUse.TheVariants as fence_use
@@ -68,12 +67,12 @@ HasAuditsAccepting accepted es r = (assumed : Assumptions) × AreAudited (terms 
 
 -- the fences of the audited submission are reduced by what can fail and what shows under these assumptions
 pub record IsReducedUnder (assumed : Assumptions) (es : List (List ℕ)) (s : Submission) (a : Audited) (r : Reduced) : Type 0 where
-  pub fallible : Vec Bool Global
-  pub visible : Vec Bool Global
-  pub are_fallible : AreFallible assumed a.members.items (members_in es s) fallible.items
-  pub are_visible : AreVisible assumed (slice_index_or es (head_at s) []) a.members.items (members_in es s) visible.items
+  pub fallible : List Bool
+  pub visible : List Bool
+  pub are_fallible : AreFallible assumed a.members.items (members_in es s) fallible
+  pub are_visible : AreVisible assumed (slice_index_or es (head_at s) []) a.members.items (members_in es s) visible
   pub reduced :
-      IsReducedAccepting a.members.items fallible.items visible.items a.fences.items a.audit.unaccepted.fences.items
+      IsReducedAccepting a.members.items fallible visible a.fences.items a.audit.unaccepted.fences.items
       a.audit.corrected.fences.items r.uses.items r.fences.items
 
 -- an audit of the submission on these terms has so many needless fences

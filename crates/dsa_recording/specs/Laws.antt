@@ -13,6 +13,7 @@ use Rattle.dsa_audit.specs.declared.member.Member.TheVariants.{Known}
 use Rattle.std.specs.List.{AllByRecursion}
 use Rattle.dsa_descriptor.specs.Lists.{entries}
 use Rattle.dsa_recording.specs.declared.answer.AuditOptions.{AuditOptions}
+use Rattle.dsa_recording.specs.declared.member.Aspect.TheVariants.{Whole}
 use Rattle.dsa_recording.specs.Entries.{IsMember}
 use Rattle.dsa_recording.specs.declared.detail.Detail.{Detail}
 use Rattle.dsa_recording.specs.declared.findings.Finding.{Finding}
@@ -32,7 +33,7 @@ use Rattle.dsa_recording.specs.Submissions.{IsWithin, members_in}
 abbrev pub ListedAreKnown : Type 0
 ListedAreKnown =
     (d : Descriptor) (head : List ℕ) (m : Member) →
-    AgreeOnOwner head (spelling (fields d)) → IsMember head (spelling (fields d)) m →
+    AgreeOnOwner head (spelling (fields d)) → IsMember Whole head (spelling (fields d)) m →
     (t : Touched) × (m ≡ Known t) × (t.reads.items ≡ read_spans (fields d)) × (t.writes.items ≡ written_spans (fields d))
 
 -- where one recording follows another, the status of both is the greater one

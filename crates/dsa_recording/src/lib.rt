@@ -59,7 +59,7 @@ pub use input::{audit, audit_entries, one_recording};
 pub use keys::{fence_key, hazard_names, key_of_entry, key_text};
 pub use laws::{fence_keys_agree, findings_are_placed, listed_are_known, statuses_join};
 pub use listing::{listing_is_read, stand_ins_conflict};
-pub use member::{member_of, operands_member, record_member, status_member, unseen_reason};
+pub use member::{Aspect, member_of, unseen_reason};
 pub use overlaps::overlap;
 pub use picture::MOST_ENTRIES;
 pub use reading::{ReadFault, audit_read};

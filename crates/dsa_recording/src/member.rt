@@ -1,12 +1,13 @@
 //! What is known of an entry of a recording.
 
-ghost use Rattle.std.specs.Prelude.{◌≡◌, ◌↔◌, ◌≤◌, ◌++◌, length, IsTrue, MatchOption, None};
+ghost use Rattle.std.specs.Prelude.{◌≡◌, ◌↔◌, ◌≤◌, ◌++◌, length, IfOk, IsTrue, MatchOption, None};
 ghost use Rattle.std.specs.List.{AllByRecursion};
 ghost use Rattle.dsa_descriptor.specs.Spans.{IsAddressable};
 ghost use Rattle.dsa_descriptor.specs.Places.{op_at};
 ghost use Rattle.dsa_audit.specs.declared.member.Unseen.{Unseen};
 ghost use Rattle.dsa_recording.specs.Furthers.{further_at};
-ghost use Rattle.dsa_recording.specs.Entries.{records_of, entry_reads, entry_results, entry_targets, entry_writes, is_checksum, status_records, value_records, Applies, IsFirstReason, IsMember, IsOperands, IsRecord, IsStatus, action_of};
+ghost use Rattle.dsa_recording.specs.Entries.{records_of, entry_reads, entry_results, entry_targets, entry_writes, is_checksum, status_records, value_records, Applies, IsFirstReason, IsMember, action_of, reads_in, writes_in};
+ghost use Rattle.dsa_recording.specs.Submissions.{AreMembers};
 
 use crate::entry::Header;
 use crate::further::further_at;
@@ -15,6 +16,22 @@ use bitflags::Flags;
 use dsa_audit::{Action, Member, Unseen};
 use dsa_descriptor::{FlagWord, Span, agree_on_owner, are_addressable, op_at, record_span, u64_at};
 use dsa_ranges::Touched;
+use std::alloc::{AllocError, Global};
+
+/// What of an entry is looked at.
+#[derive(Clone, Copy)]
+pub enum Aspect {
+    /// All that it reads and writes, its record too.
+    Whole,
+    /// Its data alone, with the value of a checksum.
+    Data,
+    /// Its record as written, and the data that it writes as read: two such members conflict if the record of one
+    /// meets the record of the other, or data that the other writes.
+    Record,
+    /// Its record as written, if that is a status alone, and the data that it reads: two such members conflict if one
+    /// reads the status of the other.
+    Status,
+}
 
 /// All reasons, in the order in which they are looked for.
 const IN_ORDER: [Unseen; 6] = [
@@ -223,44 +240,42 @@ pub fn unseen_reason(head: &[u8; 64], entry: &[u8; 64]) -> Option<Unseen>
     None
 }
 
-/// What is known of an entry, whose batch has the descriptor `head`; of a lone descriptor it is the entry itself.
-pub fn member_of(head: &[u8; 64], entry: &[u8; 64]) -> Member
-    ensures { IsMember head.now entry.now result }
+/// What an entry reads and writes in this respect.
+fn touched_in(aspect: Aspect, entry: &[u8; 64]) -> Touched
+    ensures reads { result.reads.items ≡ reads_in aspect entry.now }
+    ensures writes { result.writes.items ≡ writes_in aspect entry.now }
 {
-    match unseen_reason(head, entry) {
-        Some(why) => Member::Unknown(why),
-        None => Member::Known(touched_by(entry)),
+    match aspect {
+        Aspect::Whole => touched_by(entry),
+        Aspect::Data => results_of(entry),
+        Aspect::Record => record_of(entry),
+        Aspect::Status => status_of(entry),
     }
 }
 
-/// The same of its data alone, with the value of a checksum.
-pub fn operands_member(head: &[u8; 64], entry: &[u8; 64]) -> Member
-    ensures { IsOperands head.now entry.now result }
+/// What is known of an entry in this respect, whose batch has the descriptor `head`; of a lone descriptor it is the
+/// entry itself.
+pub fn member_of(aspect: Aspect, head: &[u8; 64], entry: &[u8; 64]) -> Member
+    ensures { IsMember aspect head.now entry.now result }
 {
     match unseen_reason(head, entry) {
         Some(why) => Member::Unknown(why),
-        None => Member::Known(results_of(entry)),
+        None => Member::Known(touched_in(aspect, entry)),
     }
 }
 
-/// Its record as written, and the data that it writes as read: two such members conflict if the record of one meets the
-/// record of the other, or data that the other writes.
-pub fn record_member(head: &[u8; 64], entry: &[u8; 64]) -> Member
-    ensures { IsRecord head.now entry.now result }
+/// The same of each of the entries.
+pub(crate) fn members_of(
+    alloc: Global,
+    aspect: Aspect,
+    head: &[u8; 64],
+    entries: &[[u8; 64]],
+) -> Result<Vec<Member>, AllocError>
+    ensures { IfOk result (λ members. AreMembers aspect head.now entries.now members.items) }
 {
-    match unseen_reason(head, entry) {
-        Some(why) => Member::Unknown(why),
-        None => Member::Known(record_of(entry)),
+    let mut members = Vec::with_capacity(alloc, entries.len())?;
+    for entry in entries {
+        members.push(member_of(aspect, head, entry))?;
     }
-}
-
-/// Its record as written, if that is a status alone, and the data that it reads: two such members conflict if one reads the
-/// status of the other.
-pub fn status_member(head: &[u8; 64], entry: &[u8; 64]) -> Member
-    ensures { IsStatus head.now entry.now result }
-{
-    match unseen_reason(head, entry) {
-        Some(why) => Member::Unknown(why),
-        None => Member::Known(status_of(entry)),
-    }
+    Ok(members)
 }

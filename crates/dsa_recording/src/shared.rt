@@ -2,41 +2,11 @@
 
 ghost use Rattle.std.specs.Prelude.{◌≡◌, ℕ, ◌<◌, get_or, length, IfOk, None};
 ghost use Rattle.dsa_conflicts.specs.Access.{later};
-ghost use Rattle.dsa_recording.specs.Submissions.{AreRecords, AreShared, AreStatuses};
+ghost use Rattle.dsa_recording.specs.Submissions.{AreShared};
 
-use crate::member::{record_member, status_member};
-use dsa_audit::{Member, all_lasts};
+use crate::member::{Aspect, members_of};
+use dsa_audit::all_lasts;
 use std::alloc::{AllocError, Global};
-
-/// The record of each of the entries, whose batch has the descriptor `head`, and the data that it writes.
-fn records_in(
-    alloc: Global,
-    head: &[u8; 64],
-    entries: &[[u8; 64]],
-) -> Result<Vec<Member>, AllocError>
-    ensures { IfOk result (λ members. AreRecords head.now entries.now members.items) }
-{
-    let mut members = Vec::with_capacity(alloc, entries.len())?;
-    for entry in entries {
-        members.push(record_member(head, entry))?;
-    }
-    Ok(members)
-}
-
-/// The record of each of the entries, if that is a status alone, and the data that it reads.
-fn statuses_in(
-    alloc: Global,
-    head: &[u8; 64],
-    entries: &[[u8; 64]],
-) -> Result<Vec<Member>, AllocError>
-    ensures { IfOk result (λ members. AreStatuses head.now entries.now members.items) }
-{
-    let mut members = Vec::with_capacity(alloc, entries.len())?;
-    for entry in entries {
-        members.push(status_member(head, entry))?;
-    }
-    Ok(members)
-}
 
 /// The later of two members, if there are any.
 pub(crate) fn later_of(first: Option<usize>, second: Option<usize>) -> Option<usize>
@@ -75,8 +45,8 @@ pub(crate) fn shared_in(
 ) -> Result<Vec<Option<usize>>, AllocError>
     ensures { IfOk result (λ shared. AreShared head.now entries.now shared.items) }
 {
-    let records = records_in(alloc, head, entries)?;
-    let statuses = statuses_in(alloc, head, entries)?;
+    let records = members_of(alloc, Aspect::Record, head, entries)?;
+    let statuses = members_of(alloc, Aspect::Status, head, entries)?;
     let firsts = all_lasts(alloc, &records)?;
     let seconds = all_lasts(alloc, &statuses)?;
     let shared = later_lasts(alloc, &firsts, &seconds)?;

@@ -4,13 +4,13 @@ ghost use Rattle.std.specs.Prelude.{◌≡◌, All, map, IfOk};
 ghost use Rattle.dsa_recording.specs.Entries.{action_of};
 ghost use Rattle.dsa_recording.specs.Pairs.{terms};
 ghost use Rattle.dsa_descriptor.specs.Fences.{is_fenced};
-ghost use Rattle.dsa_recording.specs.Submissions.{head_at, IsWithin, AreMembers, AreOperands, IsAudited, AreAudited};
+ghost use Rattle.dsa_recording.specs.Submissions.{head_at, IsWithin, IsAudited, AreAudited};
 
 use crate::accepted::Accepted;
 use crate::assumptions::Assumptions;
 use crate::failure::fallible_of;
 use crate::flaws::{Flaws, all_flaws, has_misaligned_record};
-use crate::member::{action_of, member_of, operands_member};
+use crate::member::{Aspect, action_of, members_of};
 use crate::pairs::AcceptedPairs;
 use crate::shared::shared_in;
 use crate::showing::visible_of;
@@ -40,10 +40,6 @@ pub struct Audited {
     pub shared: Vec<Option<usize>>,
     /// What is wrong with each beside fences.
     pub flaws: Vec<Flaws>,
-    /// Whether each member can fail.
-    pub fallible: Vec<bool>,
-    /// Whether software can see of each member that it has ended.
-    pub visible: Vec<bool>,
     /// The missing and the needless fences.
     pub audit: Audit,
 }
@@ -63,52 +59,14 @@ pub fn head_at(submission: Submission) -> usize
 fn fences_of(alloc: Global, entries: &[[u8; 64]]) -> Result<Vec<bool>, AllocError>
     ensures { IfOk result (λ fences. fences.items ≡ map is_fenced entries.now) }
 {
-    let mut fences = Vec::with_capacity(alloc, entries.len())?;
-    for entry in entries {
-        fences.push(is_fenced(entry))?;
-    }
-    Ok(fences)
+    entries.iter().map(|entry| is_fenced(entry)).collect(alloc)
 }
 
 /// What each of the entries does.
 fn actions_of(alloc: Global, entries: &[[u8; 64]]) -> Result<Vec<Action>, AllocError>
     ensures { IfOk result (λ actions. actions.items ≡ map action_of entries.now) }
 {
-    let mut actions = Vec::with_capacity(alloc, entries.len())?;
-    for entry in entries {
-        actions.push(action_of(entry))?;
-    }
-    Ok(actions)
-}
-
-/// What is known of each of the entries, whose batch has the descriptor `head`.
-fn members_of(
-    alloc: Global,
-    head: &[u8; 64],
-    entries: &[[u8; 64]],
-) -> Result<Vec<Member>, AllocError>
-    ensures { IfOk result (λ members. AreMembers head.now entries.now members.items) }
-{
-    let mut members = Vec::with_capacity(alloc, entries.len())?;
-    for entry in entries {
-        members.push(member_of(head, entry))?;
-    }
-    Ok(members)
-}
-
-/// What is known of the data of each of the entries, whose batch has the descriptor `head`.
-fn operands_in(
-    alloc: Global,
-    head: &[u8; 64],
-    entries: &[[u8; 64]],
-) -> Result<Vec<Member>, AllocError>
-    ensures { IfOk result (λ members. AreOperands head.now entries.now members.items) }
-{
-    let mut members = Vec::with_capacity(alloc, entries.len())?;
-    for entry in entries {
-        members.push(operands_member(head, entry))?;
-    }
-    Ok(members)
+    entries.iter().map(|entry| action_of(entry)).collect(alloc)
 }
 
 /// The fences of a submission of these entries: which are missing, once pairs with these keys are accepted, and which
@@ -127,9 +85,9 @@ pub fn audit_submission(
     let at = head_at(submission);
     let entries = &all[submission.first..submission.first + submission.size];
     let fences = fences_of(alloc, entries)?;
-    let members = members_of(alloc, &all[at], entries)?;
+    let members = members_of(alloc, Aspect::Whole, &all[at], entries)?;
     let actions = actions_of(alloc, entries)?;
-    let operands = operands_in(alloc, &all[at], entries)?;
+    let operands = members_of(alloc, Aspect::Data, &all[at], entries)?;
     let fallible = fallible_of(alloc, assumptions, &members, entries)?;
     let visible = visible_of(alloc, assumptions, &all[at], &members, entries)?;
     let effects = Effects {
@@ -154,8 +112,6 @@ pub fn audit_submission(
         operands,
         shared: shared_in(alloc, &all[at], entries)?,
         flaws: all_flaws(alloc, submission.is_batch, &all[at], entries)?,
-        fallible,
-        visible,
         audit,
     })
 }

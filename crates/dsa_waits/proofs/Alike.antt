@@ -1,7 +1,9 @@
 -- Entries that keys name in the same words, and what is known of the waits of one entry.
-use Rattle.std.proofs.Common.{◌≡◌, ℕ, ◌+◌, ◌-◌, ◌<◌, inl, inr, Bool, true, false, List, ◌++◌, get_or, slice_get, sym, ap, subst, refl, ◌∙◌, arith}
-use Rattle.std.specs.Prelude.{All, Result, Ok, Err, IfOk, codes, decimal, nat_lt, if◌then◌else◌}
+use Rattle.std.proofs.Common.{cond, ◌≡◌, ℕ, ◌+◌, ◌-◌, ◌<◌, inl, inr, Bool, true, false, List, ◌++◌, get_or, slice_get, Option, Some, None, is_some, String, sym, ap, subst, refl, ◌∙◌, arith}
+use Rattle.std.specs.Prelude.{All, codes, decimal, nat_lt, if◌then◌else◌}
+use Rattle.std.specs.Global.{Global}
 use Rattle.std.specs.List.{Contains}
+use Rattle.std.specs.Str.{bytes_eq}
 use Rattle.std.proofs.lemmas.Bool.{ltb-false}
 use Rattle.std.proofs.lemmas.List.Elements.{All-contains, All-push}
 use Rattle.dsa_audit.specs.declared.hazard.Hazards.{Hazards}
@@ -11,11 +13,11 @@ use Rattle.dsa_recording.specs.declared.stream.Submission.{Submission}
 use Rattle.dsa_recording.specs.EntryKeys.{batch_key, entry_key, hazard_names, key_of_entry, member_key}
 use Rattle.dsa_recording.specs.Pairs.{has_key}
 use Rattle.dsa_recording.specs.Uses.{AddsKeys}
-use Rattle.dsa_recording.proofs.Using.{adds_same}
+use Rattle.dsa_recording.proofs.Using.{adds_line, adds_none, adds_same}
 use Rattle.dsa_waits.specs.declared.course.Course.{Course}
 use Rattle.dsa_waits.specs.declared.known.Known.{Known}
 use Rattle.dsa_waits.specs.Keys.{IsWaitAccepted, IsWaitKey, key_at, key_between}
-use Rattle.dsa_waits.specs.Steps.{HasKeyOf, IsKnown, IsSettled, IsUsedPair, Remembers}
+use Rattle.dsa_waits.specs.Steps.{HasKeyOf, IsAcceptedKey, IsKnown, IsSettled, IsUsedPair, Remembers, key_of_known, looked_up}
 use Rattle.dsa_waits.proofs.Hazards.{accepted_by, one_key}
 
 -- ---- the words of an entry
@@ -53,9 +55,36 @@ same_words es s t x y batch size head member words =
 
 -- ---- known waits
 
+-- what is so of each known one is so of one more
+pub remembered : (P : Known → Type 0) (one : Known) (old new : List Known) → Remembers one old new → All P old → P one → All P new
+remembered P one old new (inl same) all is = subst (λ (l : List Known). All P l) (sym same) all
+remembered P one old new (inr more) all is = subst (λ (l : List Known). All P l) (sym more) (All-push P old one all is)
+
+-- ---- a key that was looked up
+
+-- a key that is found is accepted, and one that is accepted is found
+pub found_if : (accepted : Accepted) (key : List ℕ) (found : Option (String Global)) → IsAcceptedKey accepted key found → has_key accepted key ≡ is_some found
+found_if accepted key None is = is
+found_if accepted key (Some s) is = is.0
+
+-- the key is added if it is accepted
+pub adds_accepted : (accepted old new : Accepted) (key line : List ℕ) → has_key accepted key ≡ true → line ≡ key
+    → ((other : List ℕ) → has_key new other ≡ cond (bytes_eq line other) true (has_key old other))
+    → AddsKeys (λ other. (other ≡ key) × (has_key accepted other ≡ true)) old new
+adds_accepted accepted old new key line has same is =
+    adds_line (λ other. has_key accepted other ≡ true) key old new
+    (subst (λ (l : List ℕ). (other : List ℕ) → has_key new other ≡ cond (bytes_eq l other) true (has_key old other)) same is) has
+
+pub adds_unaccepted : (accepted used : Accepted) (key : List ℕ) → has_key accepted key ≡ false → AddsKeys (λ other. (other ≡ key) × (has_key accepted other ≡ true)) used used
+adds_unaccepted accepted used key hasnt =
+    adds_none (λ other. (other ≡ key) × (has_key accepted other ≡ true)) used
+    (λ other both. let end : false ≡ true = sym hasnt ∙ (ap (has_key accepted) (sym both.0) ∙ both.1) in absurd cc)
+
+-- ---- waits between two entries
+
 module _ (es : List (List ℕ)) (ss : List Submission) (c : Course) where
-  pub key_of_known : (one : Known) (earlier later : ℕ) (hs : Hazards) → HasKeyOf es ss c one earlier hs → key_between es ss c one.earlier later one.hazards ≡ key_between es ss c earlier later hs
-  key_of_known one earlier later hs (same, alike) =
+  pub known_alike : (one : Known) (earlier later : ℕ) (hs : Hazards) → HasKeyOf es ss c one earlier hs → key_of_known es ss c later one ≡ key_between es ss c earlier later hs
+  known_alike one earlier later hs (same, alike) =
       ap (λ (w : List ℕ). codes "missing wait" ++ (hazard_names one.hazards ++ (key_at es ss c later ++ w))) alike
       ∙ ap (λ (h : Hazards). codes "missing wait" ++ (hazard_names h ++ (key_at es ss c later ++ key_at es ss c earlier))) same
 
@@ -75,7 +104,7 @@ module _ (es : List (List ℕ)) (ss : List Submission) (c : Course) where
   pub known_answer : (accepted : Accepted) (known : List Known) (one : Known) (earlier later : ℕ) (hs : Hazards) → All (IsKnown accepted es ss c later) known → Contains known one → HasKeyOf es ss c one earlier hs
       → has_key accepted (key_between es ss c earlier later hs) ≡ one.is_accepted
   known_answer accepted known one earlier later hs all there has =
-      ap (has_key accepted) (sym (key_of_known one earlier later hs has)) ∙ All-contains (IsKnown accepted es ss c later) known one all there
+      ap (has_key accepted) (sym (known_alike one earlier later hs has)) ∙ All-contains (IsKnown accepted es ss c later) known one all there
 
   -- a key that is used already is not added again
   adds_within : (P : List ℕ → Type 0) (used : Accepted) → ((key : List ℕ) → P key → has_key used key ≡ true) → AddsKeys P used used
@@ -94,8 +123,8 @@ module _ (es : List (List ℕ)) (ss : List Submission) (c : Course) where
       let settled : IsSettled accepted es ss c later used one = All-contains (IsSettled accepted es ss c later used) known one all there in
       adds_within (IsUsedPair accepted es ss c earlier later) used
       (λ key pair.
-      let same : key ≡ key_between es ss c one.earlier later one.hazards =
-      one_key es ss c earlier later key (key_between es ss c earlier later hs) pair.1 (own_key earlier later hs lt conflict are) ∙ sym (key_of_known one earlier later hs has) in
+      let same : key ≡ key_of_known es ss c later one =
+      one_key es ss c earlier later key (key_between es ss c earlier later hs) pair.1 (own_key earlier later hs lt conflict are) ∙ sym (known_alike one earlier later hs has) in
       ap (has_key used) same ∙ settled (ap (has_key accepted) (sym same) ∙ pair.0))
 
   -- the key of two entries that conflict is that of their hazards
@@ -108,21 +137,10 @@ module _ (es : List (List ℕ)) (ss : List Submission) (c : Course) where
         λ pair. (one_key es ss c earlier later key (key_between es ss c earlier later hs) pair.1 (own_key earlier later hs lt conflict are), pair.0),
       )) adds
 
-  -- what is settled stays so
-  pub still_settled : (accepted old new : Accepted) (P : List ℕ → Type 0) (later : ℕ) (known : List Known) → AddsKeys P old new → All (IsSettled accepted es ss c later old) known → All (IsSettled accepted es ss c later new) known
-  still_settled accepted old new P later known adds all k one lt has =
-      (adds (key_between es ss c (get_or known k one).earlier later (get_or known k one).hazards)).1 (inl (all k one lt has))
-
-  pub settled_now : (accepted old new : Accepted) (one : Known) (later : ℕ) → AddsKeys (λ key. (key ≡ key_between es ss c one.earlier later one.hazards) × (has_key accepted key ≡ true)) old new
-      → IsSettled accepted es ss c later new one
-  settled_now accepted old new one later adds has = (adds (key_between es ss c one.earlier later one.hazards)).1 (inr (refl, has))
-
--- what is so of each known one is so of one more
-pub remembered : (P : Known → Type 0) (one : Known) (old new : List Known) → Remembers one old new → All P old → P one → All P new
-remembered P one old new (inl same) all is = subst (λ (l : List Known). All P l) (sym same) all
-remembered P one old new (inr more) all is = subst (λ (l : List Known). All P l) (sym more) (All-push P old one all is)
-
--- what is so of an answer is so of it in other words
-pub if_answer : {E : Type 0} (r : Result Bool E) (P Q : Bool → Type 0) → ((b : Bool) → P b → Q b) → IfOk r P → IfOk r Q
-if_answer (Ok b) P Q f p = f b p
-if_answer (Err e) P Q f p = tt
+  -- what is settled stays so, and so is what was looked up and added
+  pub settled_more : (accepted old new : Accepted) (earlier later : ℕ) (hs : Hazards) (known more : List Known) → Remembers (looked_up accepted es ss c earlier later hs) known more
+      → AddsKeys (λ key. (key ≡ key_between es ss c earlier later hs) × (has_key accepted key ≡ true)) old new → All (IsSettled accepted es ss c later old) known → All (IsSettled accepted es ss c later new) more
+  settled_more accepted old new earlier later hs known more is adds all =
+      remembered (IsSettled accepted es ss c later new) (looked_up accepted es ss c earlier later hs) known more is
+      (λ k one lt has. (adds (key_of_known es ss c later (get_or known k one))).1 (inl (all k one lt has)))
+      (λ has. (adds (key_between es ss c earlier later hs)).1 (inr (refl, has)))

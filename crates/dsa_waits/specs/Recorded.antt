@@ -10,6 +10,7 @@ use Rattle.dsa_recording.specs.declared.stream.Submission.{Submission}
 use Rattle.dsa_recording.specs.Streams.{end_of}
 use Rattle.dsa_descriptor.specs.Fences.{is_fenced}
 use Rattle.dsa_recording.specs.Submissions.{head_at}
+use Rattle.dsa_recording.specs.declared.member.Aspect.TheVariants.{Whole}
 use Rattle.dsa_recording.specs.Entries.{IsMember, records_of}
 use Rattle.dsa_waits.specs.declared.course.Course.{Course}
 use Rattle.dsa_waits.specs.declared.course.Entry.{Entry}
@@ -69,7 +70,7 @@ IsHeadAccess h (Unknown why) = ⊥
 -- what entry e of the submission reads and writes; of a member, or of a lone descriptor, what an audit knows of it
 pub record IsAccess (es : List (List ℕ)) (s : Submission) (e : ℕ) (m : Member) : Type 0 where
   pub head : e < s.first → IsHeadAccess (bytes_of es e) m
-  pub member : s.first ≤ e → IsMember (bytes_of es (head_at s)) (bytes_of es e) m
+  pub member : s.first ≤ e → IsMember Whole (bytes_of es (head_at s)) (bytes_of es e) m
 
 -- ---- events
 

@@ -1,5 +1,6 @@
 -- ---- for private clauses: the search, event by event
-use Rattle.std.specs.Prelude.{ℕ, ◌≡◌, ◌<◌, ◌≤◌, ◌↔◌, ◌⊎◌, ◌≢◌, Bool, true, false, List, [], ◌∷◌, ◌++◌, length, get_or, Option, Some}
+use Rattle.std.specs.Prelude.{ℕ, ◌≡◌, ◌<◌, ◌≤◌, ◌↔◌, ◌⊎◌, ◌≢◌, Bool, true, false, List, [], ◌∷◌, ◌++◌, length, get_or, Option, Some, None, String, string_bytes}
+use Rattle.std.specs.Global.{Global}
 use Rattle.std.specs.List.{AllPairs, Contains}
 use Rattle.dsa_audit.specs.Steps.{AreLasts}
 use Rattle.dsa_recording.specs.declared.accepted.Accepted.{Accepted}
@@ -89,14 +90,28 @@ pub record IsFlying (accepted : Accepted) (es : List (List ℕ)) (ss : List Subm
 abbrev pub HasKeyOf : List (List ℕ) → List Submission → Course → Known → ℕ → Hazards → Type 0
 HasKeyOf es ss c one earlier hs = (one.hazards ≡ hs) × (key_at es ss c one.earlier ≡ key_at es ss c earlier)
 
+-- the key of a wait of entry `later` for the known one
+abbrev pub key_of_known : List (List ℕ) → List Submission → Course → ℕ → Known → List ℕ
+key_of_known es ss c later one = key_between es ss c one.earlier later one.hazards
+
 -- whether its key is accepted
 abbrev pub IsKnown : Accepted → List (List ℕ) → List Submission → Course → ℕ → Known → Type 0
-IsKnown accepted es ss c later one = has_key accepted (key_between es ss c one.earlier later one.hazards) ≡ one.is_accepted
+IsKnown accepted es ss c later one = has_key accepted (key_of_known es ss c later one) ≡ one.is_accepted
 
 -- its key is among those that are used, if it is accepted
 abbrev pub IsSettled : Accepted → List (List ℕ) → List Submission → Course → ℕ → Accepted → Known → Type 0
 IsSettled accepted es ss c later used one =
-    has_key accepted (key_between es ss c one.earlier later one.hazards) ≡ true → has_key used (key_between es ss c one.earlier later one.hazards) ≡ true
+    has_key accepted (key_of_known es ss c later one) ≡ true → has_key used (key_of_known es ss c later one) ≡ true
+
+-- what is known of a wait once its key is looked up
+abbrev pub looked_up : Accepted → List (List ℕ) → List Submission → Course → ℕ → ℕ → Hazards → Known
+looked_up accepted es ss c earlier later hs =
+    record { earlier = earlier; hazards = hs; is_accepted = has_key accepted (key_between es ss c earlier later hs) }
+
+-- this is the key, if it is accepted; else there is none
+abbrev pub IsAcceptedKey : Accepted → List ℕ → Option (String Global) → Type 0
+IsAcceptedKey accepted key None = has_key accepted key ≡ false
+IsAcceptedKey accepted key (Some s) = (has_key accepted key ≡ true) × (string_bytes s ≡ key)
 
 -- one more is known, or none
 abbrev pub Remembers : Known → List Known → List Known → Type 0

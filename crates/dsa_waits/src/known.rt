@@ -1,12 +1,11 @@
 //! Which waits of one entry are accepted: each key is looked up once, and not for each earlier entry.
 
-ghost use Rattle.std.specs.Prelude.{◌≡◌, ◌↔◌, ◌<◌, All, IfOk, IsTrue, MatchOption, OnOk, true};
+ghost use Rattle.std.specs.Prelude.{◌≡◌, ◌↔◌, ◌<◌, All, IfOk, IsTrue, MatchOption, OnOk};
 ghost use Rattle.std.specs.List.{Contains};
 ghost use Rattle.dsa_audit.specs.Members.{KnownConflict};
-ghost use Rattle.dsa_recording.specs.Pairs.{has_key};
 ghost use Rattle.dsa_recording.specs.Uses.{AddsKeys};
 ghost use Rattle.dsa_waits.specs.Keys.{IsWaitAccepted, key_between};
-ghost use Rattle.dsa_waits.specs.Steps.{HasKeyOf, IsKnown, IsSettled, IsUsedPair, Remembers};
+ghost use Rattle.dsa_waits.specs.Steps.{HasKeyOf, IsAcceptedKey, IsKnown, IsSettled, IsUsedPair, Remembers, looked_up};
 
 use crate::course::Course;
 use crate::keys::{Keyed, are_alike, conflict_in_order, key_between};
@@ -88,7 +87,7 @@ fn remember(known: &mut Vec<Known>, one: Known) -> Result<(), AllocError>
     Ok(())
 }
 
-/// Whether the key of a wait between two entries with these hazards is accepted. It is known from then on.
+/// The key of a wait between two entries with these hazards, if it is accepted. Whether it is, is known from then on.
 fn look_up(
     keyed: Keyed<'_>,
     course: &Course,
@@ -96,14 +95,12 @@ fn look_up(
     earlier: usize,
     later: usize,
     hazards: Hazards,
-) -> Result<bool, AllocError>
-    requires known { All (IsKnown keyed.accepted.now keyed.all.now keyed.submissions.now
-        course.now later) known.old.items }
-    ensures accepted { IfOk result (λ yes. has_key keyed.entry.accepted.now
-        (key_between keyed.entry.all.now keyed.entry.submissions.now course.now earlier later
-        hazards) ≡ yes) }
-    ensures known { OnOk result (All (IsKnown keyed.entry.accepted.now keyed.entry.all.now
-        keyed.entry.submissions.now course.now later) known.new.items) }
+) -> Result<Option<String>, AllocError>
+    ensures key { IfOk result (IsAcceptedKey keyed.entry.accepted.now (key_between
+        keyed.entry.all.now keyed.entry.submissions.now course.now earlier later hazards)) }
+    ensures known { OnOk result (Remembers (looked_up keyed.entry.accepted.now
+        keyed.entry.all.now keyed.entry.submissions.now course.now earlier later hazards)
+        known.old.items known.new.items) }
 {
     let (all, submissions) = (keyed.all, keyed.submissions);
     let key = key_between(
@@ -124,7 +121,10 @@ fn look_up(
             is_accepted,
         },
     )?;
-    Ok(is_accepted)
+    if !is_accepted {
+        return Ok(None);
+    }
+    Ok(Some(key))
 }
 
 /// Whether the wait of an entry for an earlier one with which it conflicts is accepted, where these are known.
@@ -147,59 +147,11 @@ pub(crate) fn is_accepted(
     let hazards = hazards_between(&course.members, earlier, later);
     match known_of(keyed, course, known, earlier, hazards) {
         Some(one) => Ok(one.is_accepted),
-        None => look_up(keyed, course, known, earlier, later, hazards),
+        None => {
+            let found = look_up(keyed, course, known, earlier, later, hazards)?;
+            Ok(found.is_some())
+        }
     }
-}
-
-/// Adds a key, if it is accepted; answers whether it is.
-fn use_accepted(keyed: Keyed<'_>, key: &str, used: &mut Accepted) -> Result<bool, AllocError>
-    ensures { OnOk result (AddsKeys (λ other. (other ≡ key.now)
-        × (has_key keyed.entry.accepted.now other ≡ true)) used.old used.new) }
-{
-    if !keyed.accepted.has(key) {
-        return Ok(false);
-    }
-    used.add(keyed.alloc, key)?;
-    Ok(true)
-}
-
-/// Adds the key of a wait between two entries with these hazards, if it is accepted. It is known from then on.
-fn use_key(
-    used: &mut Accepted,
-    course: &Course,
-    keyed: Keyed<'_>,
-    known: &mut Vec<Known>,
-    earlier: usize,
-    later: usize,
-    hazards: Hazards,
-) -> Result<(), AllocError>
-    requires known { All (IsSettled keyed.accepted.now keyed.all.now keyed.submissions.now
-        course.now later used.old) known.old.items }
-    ensures used { OnOk result (AddsKeys (λ key. (key ≡ key_between keyed.entry.all.now
-        keyed.entry.submissions.now course.now earlier later hazards)
-        × (has_key keyed.entry.accepted.now key ≡ true)) used.old used.new) }
-    ensures known { OnOk result (All (IsSettled keyed.entry.accepted.now keyed.entry.all.now
-        keyed.entry.submissions.now course.now later used.new) known.new.items) }
-{
-    let (all, submissions) = (keyed.all, keyed.submissions);
-    let key = key_between(
-        keyed.alloc,
-        all,
-        submissions,
-        course,
-        earlier,
-        later,
-        hazards,
-    )?;
-    let is_accepted = use_accepted(keyed, &key, used)?;
-    remember(
-        known,
-        Known {
-            earlier,
-            hazards,
-            is_accepted,
-        },
-    )
 }
 
 /// Adds the key of two entries, if they conflict and it is accepted; where one with this key is known, it is there.
@@ -225,6 +177,9 @@ pub(crate) fn use_wait(
     let hazards = hazards_between(&course.members, earlier, later);
     match known_of(keyed, course, known, earlier, hazards) {
         Some(_) => Ok(()),
-        None => use_key(used, course, keyed, known, earlier, later, hazards),
+        None => match look_up(keyed, course, known, earlier, later, hazards)? {
+            Some(key) => used.add(keyed.alloc, &key),
+            None => Ok(()),
+        },
     }
 }

@@ -16,7 +16,7 @@ use bitflags::Flags;
 use dsa_audit::Member;
 use dsa_descriptor::{FlagWord, Span, is_fenced, record_span, u64_at};
 use dsa_ranges::Touched;
-use dsa_recording::{Header, RECORD_REQUESTED, Submission, head_at, member_of};
+use dsa_recording::{Aspect, Header, RECORD_REQUESTED, Submission, head_at, member_of};
 use std::alloc::{AllocError, Global};
 
 /// Whether the entry asks for a completion record.
@@ -72,7 +72,7 @@ fn access_of(all: &[[u8; 64]], submission: Submission, entry: usize) -> Member
     if entry < submission.first {
         return head_access(&all[entry]);
     }
-    member_of(&all[head_at(submission)], &all[entry])
+    member_of(Aspect::Whole, &all[head_at(submission)], &all[entry])
 }
 
 /// The epoch of an entry, by the one before it.

@@ -255,6 +255,26 @@ def clauses_in(path, begin, end):
         yield (start[1] or "").strip(), Clause(crate, place, text[start.start() : at].strip(), cited)
 
 
+@cache
+def of_public_clauses():
+    """The definitions on which a clause of a public function or of a trait rests."""
+    starts = set()
+    for path in sorted(ROOT.glob("crates/*/src/**/*.rt")):
+        text = path.read_text()
+        for head in re.finditer(r'^ *(pub )?(?:extern "C" )?fn \w+', text, re.M):
+            blocks = re.findall(r"^(?:impl|pub trait|trait)\b.*", text[: head.start()], re.M)
+            is_of_trait = head[0][0] == " " and blocks and ("trait" in blocks[-1] or " for " in blocks[-1])
+            if head[1] or is_of_trait:
+                found = clauses_in(path, head.start(), head_end(text, head.end()))
+                starts |= set().union(*(it.cited for _, it in found))
+    return frozenset(rest_on(starts))
+
+
+def is_private(place):
+    """Whether the definition serves clauses of private functions alone."""
+    return place not in of_public_clauses()
+
+
 def parts_of(words):
     """The crate, the function and the clause that words name, each empty if it is not named."""
     crate, _, rest = words.rpartition("/")

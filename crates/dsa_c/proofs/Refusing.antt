@@ -7,8 +7,8 @@ use Rattle.dsa_calls.specs.declared.fault.PlanFault.{PlanFault}
 use Rattle.dsa_calls.specs.declared.fault.PlanFault.TheVariants.{Memory}
 use Rattle.dsa_calls.specs.declared.checking.FencedFault.{FencedFault}
 use Rattle.dsa_calls.specs.declared.checking.FencedFault.TheVariants.{Call}
-use Rattle.dsa_operations.specs.AnyLists.{ChecksAnyList, IsLeastEmissionOfAnyList, IsLeastOfAnyList, PlansAnyList}
-use Rattle.dsa_operations.specs.Submissions.{OperationSubmission}
+use Rattle.dsa_lists.specs.AnyLists.{ChecksAnyList, IsLeastEmissionOfAnyList, IsLeastOfAnyList, PlansAnyList}
+use Rattle.dsa_lists.specs.Submissions.{OperationSubmission}
 use Rattle.dsa_c.specs.declared.settings.RawSettings.{RawSettings}
 use Rattle.dsa_c.specs.declared.refusal.RawRefusal.{RawRefusal}
 use Rattle.dsa_c.specs.Raw.{limits_of, AreSettings, RefusesUnder, refusal_of, no_room}

@@ -12,10 +12,10 @@ use Rattle.dsa_tracker.specs.Calls as trackers
 use Rattle.dsa_tracker.specs.declared.owner.Owner.{Owner}
 use Rattle.dsa_tracker.specs.declared.slots.Slots.{Slots}
 use Rattle.dsa_tracker.specs.declared.submitted.Submitted.{Submitted}
-use Rattle.dsa_operations.specs.AnyLists.{IsOfDescriptors}
+use Rattle.dsa_lists.specs.AnyLists.{IsOfDescriptors}
 use Rattle.dsa_operations.specs.declared.operation.Operation.{Operation}
 use Rattle.dsa_operations.specs.Operations as operations
-use Rattle.dsa_operations.specs.Submissions.{AreReady}
+use Rattle.dsa_lists.specs.Submissions.{AreReady}
 use Rattle.dsa_c.specs.declared.refusal.RawRefusal.{RawRefusal}
 use Rattle.dsa_c.specs.declared.settings.RawSettings.{RawSettings}
 use Rattle.dsa_c.specs.Raw.{limits_of, prices_in, staged_at, AreSettings, HaveLimits}

@@ -4,7 +4,7 @@ use Rattle.dsa_plan.specs.Settings.{Limits}
 use Rattle.dsa_resume.specs.declared.left.LeftOrder.{LeftOrder}
 use Rattle.dsa_resume.specs.Rest.{Remainder}
 use Rattle.dsa_operations.specs.declared.operation.Operation.{Operation}
-use Rattle.dsa_operations.specs.Resuming.{IsListAgain, ResumesAnyList, rest_bytes}
+use Rattle.dsa_lists.specs.Resuming.{IsListAgain, ResumesAnyList, rest_bytes}
 use Rattle.dsa_c.specs.declared.settings.RawSettings.{RawSettings}
 use Rattle.dsa_c.specs.declared.refusal.RawRefusal.{RawRefusal}
 use Rattle.dsa_c.specs.Preparing.{refusal_at}

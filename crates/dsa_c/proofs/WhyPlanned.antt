@@ -6,10 +6,10 @@ use Rattle.dsa_descriptor.specs.Pieces.{most_pieces}
 use Rattle.dsa_plan.specs.Plan.{Plan, piece_count}
 use Rattle.dsa_plan.specs.Settings.{Limits}
 use Rattle.dsa_splitter.proofs.Walks.{length_all}
-use Rattle.dsa_operations.specs.AnyLists.{AreAnyPieces, IsAnyPlan}
+use Rattle.dsa_lists.specs.AnyLists.{AreAnyPieces, IsAnyPlan}
 use Rattle.dsa_operations.specs.declared.operation.Operation.{Operation}
 use Rattle.dsa_operations.specs.declared.operation.Operation.TheVariants as operation
-use Rattle.dsa_operations.proofs.AnyLists.{any_plan_is_checked, any_plan_is_least}
+use Rattle.dsa_lists.proofs.AnyLists.{any_plan_is_checked, any_plan_is_least}
 use Rattle.dsa_c.specs.declared.refusal.RawRefusal.{RawRefusal}
 use Rattle.dsa_c.specs.declared.settings.RawSettings.{RawSettings}
 use Rattle.dsa_c.specs.Planning.{About, AreOfPlan, IsPlannedList, RefusesOfPlan}

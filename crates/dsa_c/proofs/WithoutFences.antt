@@ -12,14 +12,14 @@ use Rattle.dsa_calls.specs.Planned.{Submission}
 use Rattle.dsa_resume.specs.declared.left.LeftOrder.{LeftOrder}
 use Rattle.dsa_resume.specs.Rest.{Remainder}
 use Rattle.dsa_resume.specs.Resumed.{Resumes}
-use Rattle.dsa_operations.specs.AnyLists.{IsOfDescriptors, JudgesAnyList, PlansAnyList, counted}
-use Rattle.dsa_operations.specs.Submissions.{OperationSubmission}
+use Rattle.dsa_lists.specs.AnyLists.{IsOfDescriptors, JudgesAnyList, PlansAnyList, counted}
+use Rattle.dsa_lists.specs.Submissions.{OperationSubmission}
 use Rattle.dsa_operations.specs.declared.operation.Operation.{Operation}
 use Rattle.dsa_operations.specs.Operations.{OperationConflictAt, operation_kind}
-use Rattle.dsa_operations.specs.Resuming.{ResumesAnyList, as_operations, rest_bytes}
+use Rattle.dsa_lists.specs.Resuming.{ResumesAnyList, as_operations, rest_bytes}
 use Rattle.dsa_operations.proofs.Answered.{are_operations}
-use Rattle.dsa_operations.proofs.Left.{fenced_alike}
-use Rattle.dsa_operations.proofs.SubmittedAlike.{submitted_alike, submitted_back}
+use Rattle.dsa_lists.proofs.Left.{fenced_alike}
+use Rattle.dsa_lists.proofs.SubmittedAlike.{submitted_alike, submitted_back}
 use Rattle.dsa_c.specs.Laws.{CheckedAsDescriptors, CheckedWithoutChecksums, JudgedWithoutFences, PlannedWithoutFences, ResumedWithoutChecksums}
 use Rattle.dsa_c.specs.Marks.{plan_of}
 use Rattle.dsa_c.specs.Raw.{limits_of}

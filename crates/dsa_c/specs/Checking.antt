@@ -10,7 +10,7 @@ use Rattle.dsa_calls.specs.declared.checking.FencedFault.TheVariants.{Call, Othe
 use Rattle.dsa_calls.specs.Checked.{ChecksSubmitted}
 use Rattle.dsa_operations.specs.declared.operation.Operation.{Operation}
 use Rattle.dsa_operations.specs.Operations.{OperationConflictAt, operation_kind}
-use Rattle.dsa_operations.specs.AnyLists.{ChecksAnyList, IsLeastEmissionOfAnyList}
+use Rattle.dsa_lists.specs.AnyLists.{ChecksAnyList, IsLeastEmissionOfAnyList}
 use Rattle.dsa_c.specs.declared.settings.RawSettings.{RawSettings}
 use Rattle.dsa_c.specs.declared.refusal.RawRefusal.{RawRefusal}
 use Rattle.dsa_c.specs.Preparing.{refusal_at}

@@ -1,7 +1,7 @@
 -- What judging promises.
 use Rattle.std.specs.Prelude.{ℕ, List, Ok, Err}
 use Rattle.dsa_c.specs.Marks.{plan_of}
-use Rattle.dsa_operations.specs.AnyLists.{JudgesAnyList}
+use Rattle.dsa_lists.specs.AnyLists.{JudgesAnyList}
 use Rattle.dsa_c.specs.declared.settings.RawSettings.{RawSettings}
 use Rattle.dsa_c.specs.declared.refusal.RawRefusal.{RawRefusal}
 use Rattle.dsa_c.specs.Raw.{limits_of, AreSettings, RefusesUnder, refusal_of}

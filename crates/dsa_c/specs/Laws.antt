@@ -13,9 +13,9 @@ use Rattle.dsa_calls.specs.Laws.{IsLeastAndShown}
 use Rattle.dsa_calls.specs.Planned.{Submission, Plans}
 use Rattle.dsa_resume.specs.Rest.{Remainder}
 use Rattle.dsa_resume.specs.Resumed.{Resumes}
-use Rattle.dsa_operations.specs.AnyLists.{IsOfDescriptors, counted}
-use Rattle.dsa_operations.specs.Resuming.{as_operations}
-use Rattle.dsa_operations.specs.Submissions.{OperationSubmission}
+use Rattle.dsa_lists.specs.AnyLists.{IsOfDescriptors, counted}
+use Rattle.dsa_lists.specs.Resuming.{as_operations}
+use Rattle.dsa_lists.specs.Submissions.{OperationSubmission}
 use Rattle.dsa_c.specs.declared.resuming.RawResumed.{RawResumed}
 use Rattle.dsa_c.specs.declared.settings.RawSettings.{RawSettings}
 use Rattle.dsa_c.specs.Marks.{marks_of, plan_of, begins_group}

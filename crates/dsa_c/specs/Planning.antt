@@ -1,8 +1,8 @@
 -- What planning into buffers promises.
 use Rattle.std.specs.Prelude.{◌≡◌, ◌⊎◌, ℕ, ◌+◌, ◌<◌, ◌≤◌, Bool, List, length, map, Ok, Err}
 use Rattle.dsa_c.specs.Marks.{marks_of}
-use Rattle.dsa_operations.specs.AnyLists.{ChecksAnyList, IsAnyPlan, IsLeastOfAnyList, PlansAnyList}
-use Rattle.dsa_operations.specs.Submissions.{OperationSubmission}
+use Rattle.dsa_lists.specs.AnyLists.{ChecksAnyList, IsAnyPlan, IsLeastOfAnyList, PlansAnyList}
+use Rattle.dsa_lists.specs.Submissions.{OperationSubmission}
 use Rattle.dsa_operations.specs.declared.operation.Operation.{Operation}
 use Rattle.dsa_plan.specs.Plan.{Plan}
 use Rattle.dsa_c.specs.declared.settings.RawSettings.{RawSettings}

@@ -20,10 +20,10 @@ use Rattle.dsa_tracker.specs.Calls.{CanKeep, CanKeepList, IsCompleteFault, IsLis
 use Rattle.dsa_tracker.specs.Calls as trackers
 use Rattle.dsa_tracker.specs.declared.owner.Owner.{Owner}
 use Rattle.dsa_operations.specs.declared.operation.Operation.{Operation}
-use Rattle.dsa_operations.specs.AnyLists.{ArePiecesOfList, OfAnyList}
+use Rattle.dsa_lists.specs.AnyLists.{ArePiecesOfList, OfAnyList}
 use Rattle.dsa_operations.specs.Operations as operations
-use Rattle.dsa_operations.specs.Submissions.{AreReady}
-use Rattle.dsa_operations.specs.declared.pieces.AnyPieces.{AnyPieces}
+use Rattle.dsa_lists.specs.Submissions.{AreReady}
+use Rattle.dsa_lists.specs.declared.pieces.AnyPieces.{AnyPieces}
 use Rattle.dsa_tracker.specs.Causes.{words_indices, words_number}
 use Rattle.dsa_tracker.specs.Groups.{CanTakeGroups, IsGroupsFault, SubmitsInTurn, free_count, group_reads, group_writes}
 use Rattle.dsa_tracker.specs.Table.{ConflictsWith, IsExactly, IsHeld, IsReady, WaitsFor}

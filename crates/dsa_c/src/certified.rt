@@ -3,7 +3,7 @@
 ghost use Rattle.std.specs.Prelude.{◌≡◌, ◌≢◌, ◌⊎◌, ◌<◌, length, MatchResult};
 ghost use Rattle.dsa_c.specs.Marks.{marks_of};
 ghost use Rattle.dsa_calls.specs.declared.fault.PlanFault.TheVariants.{Memory};
-ghost use Rattle.dsa_operations.specs.Submissions.{operation_submission_of};
+ghost use Rattle.dsa_lists.specs.Submissions.{operation_submission_of};
 ghost use Rattle.dsa_c.specs.Raw.{no_room_for_certificate, refusal_of};
 ghost use Rattle.dsa_c.specs.Planning.{IsPlannedList, FitsIn, CertificateFitsIn, IsCertifiedWritten, RefusesCertified};
 
@@ -14,7 +14,7 @@ use crate::planning::{RawPlanned, plan_for, summary};
 use crate::refusal::{RawRefusal, no_room_for_certificate, refusal};
 use crate::settings::RawSettings;
 use dsa_calls::PlanFault;
-use dsa_operations::PlannedOperations;
+use dsa_lists::PlannedOperations;
 use std::alloc::Global;
 
 /// A planned list, and the marks of its pieces.

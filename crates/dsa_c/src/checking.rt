@@ -8,7 +8,8 @@ use crate::certificate::{RawPair, certificate_of};
 use crate::refusal::{RawRefusal, refusal, refusal_at};
 use crate::settings::{RawSettings, settings_of, settings_refusal};
 use dsa_calls::{FencedFault, PlanFault, check_submitted};
-use dsa_operations::{Operation, check_any_list};
+use dsa_lists::check_any_list;
+use dsa_operations::Operation;
 use std::alloc::Global;
 
 /// The number of the refusal of a piece that is not the list's.

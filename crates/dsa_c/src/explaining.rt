@@ -14,7 +14,7 @@ use crate::reasons::{RawReason, raw_reasons};
 use crate::refusal::{RawRefusal, refusal, refusal_at};
 use crate::settings::RawSettings;
 use dsa_calls::PlanFault;
-use dsa_operations::AnyPlanned;
+use dsa_lists::AnyPlanned;
 use dsa_reasons::cut_reasons;
 use std::alloc::{AllocError, Global};
 

@@ -7,7 +7,7 @@ use crate::marks::plan_of;
 use crate::refusal::{RawRefusal, refusal};
 use crate::settings::{RawSettings, settings_of, settings_refusal};
 use dsa_calls::PlanFault;
-use dsa_operations::judge_any_list;
+use dsa_lists::judge_any_list;
 use std::alloc::Global;
 
 /// The cost of the plan that the marks spell.

@@ -1,16 +1,16 @@
 //! Planning a list into buffers of the caller.
 
 ghost use Rattle.std.specs.Prelude.{◌≡◌, ◌≢◌, ℕ, ◌<◌, List, length, MatchResult};
-ghost use Rattle.dsa_operations.specs.AnyLists.{IsAnyPlan};
+ghost use Rattle.dsa_lists.specs.AnyLists.{IsAnyPlan};
 ghost use Rattle.dsa_c.specs.declared.settings.RawSettings.{RawSettings};
 ghost use Rattle.dsa_c.specs.Raw.{AreSettings, limits_of};
-ghost use Rattle.dsa_operations.specs.Submissions.{operation_submission_of};
+ghost use Rattle.dsa_lists.specs.Submissions.{operation_submission_of};
 ghost use Rattle.dsa_c.specs.Planning.{IsPlannedList, FitsIn, IsWritten, Refuses, RefusesToPlan, summary_of};
 
 use crate::buffer::put;
 use crate::refusal::{RawRefusal, no_room, refusal};
 use crate::settings::{RawSettings, by_size, same_price, settings_of, settings_refusal};
-use dsa_operations::{AnyPlanned, PlannedOperations, plan_any_list, plan_any_pieces};
+use dsa_lists::{AnyPlanned, PlannedOperations, plan_any_list, plan_any_pieces};
 use dsa_plan::Settings;
 use std::alloc::Global;
 

@@ -2,7 +2,7 @@
 
 ghost use Rattle.std.specs.Prelude.{◌≡◌, ◌≢◌, ◌<◌, ◌≤◌, IfOk, length, MatchResult};
 ghost use Rattle.dsa_resume.specs.Rest.{remainder_of};
-ghost use Rattle.dsa_operations.specs.Resuming.{rest_bytes};
+ghost use Rattle.dsa_lists.specs.Resuming.{rest_bytes};
 ghost use Rattle.dsa_c.specs.Resuming.{IsLeftIn, IsResumedInto, RefusesResume, order_of, resume_refusal_of, resumed_of};
 
 use crate::buffer::put;
@@ -10,7 +10,8 @@ use crate::refusal::{RawRefusal, refusal, refusal_at};
 use crate::settings::{RawSettings, settings_of, settings_refusal};
 use dsa_calls::PlanFault;
 use dsa_descriptor::write_entries;
-use dsa_operations::{Operation, resume_any_list};
+use dsa_lists::resume_any_list;
+use dsa_operations::Operation;
 use dsa_resume::{LeftOrder, Rest, ResumeFault};
 use std::alloc::{AllocError, Global};
 

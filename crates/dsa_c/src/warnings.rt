@@ -13,7 +13,7 @@ use crate::refusal::{RawRefusal, refusal, refusal_at};
 use crate::settings::RawSettings;
 use crate::texts::put_front;
 use dsa_calls::PlanFault;
-use dsa_operations::AnyPlanned;
+use dsa_lists::AnyPlanned;
 use dsa_warnings::{Concern, Warning, warning_text, warnings_of};
 use std::alloc::{AllocError, Global};
 

@@ -23,7 +23,7 @@ use Rattle.dsa_image.specs.Memory.{HoldsRanges, Memory}
 use Rattle.dsa_operations.specs.declared.operation.Operation.{Operation}
 use Rattle.dsa_operations.specs.declared.operation.Operation.TheVariants as operation
 use Rattle.dsa_operations.specs.Operations.{OperationConflictAt}
-use Rattle.dsa_operations.proofs.Listed.{conflict_alike}
+use Rattle.dsa_lists.proofs.Listed.{conflict_alike}
 use Rattle.dsa_ranges.specs.Ranges.{ConflictAt}
 use Rattle.dsa_settings.specs.Legal.{IsLegal}
 use Rattle.dsa_settings.specs.Plan.{Plan}

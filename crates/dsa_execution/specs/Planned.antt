@@ -8,7 +8,7 @@ use Rattle.dsa_core.specs.Run.{At, IsRun, State, event}
 use Rattle.dsa_core.specs.Run.Progress.{Finished}
 use Rattle.dsa_descriptor.specs.Fences.{barriers_of}
 use Rattle.dsa_image.specs.Memory.{Memory}
-use Rattle.dsa_operations.specs.Submissions.{IsLeastOfOperations, OperationSubmission}
+use Rattle.dsa_lists.specs.Submissions.{IsLeastOfOperations, OperationSubmission}
 use Rattle.dsa_settings.specs.Barriers.{IsBarrier}
 use Rattle.dsa_settings.specs.Settings.{Limits}
 use Rattle.dsa_execution.specs.Headline.{CanExecute}

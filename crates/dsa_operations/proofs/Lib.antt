@@ -6,11 +6,3 @@ pub mod Same
 pub mod Answered
 pub mod Written
 pub mod Apart
-pub mod Listed
-pub mod First
-pub mod Submitted
-pub mod Ready
-pub mod AnyLists
-pub mod Addressable
-pub mod SubmittedAlike
-pub mod Left

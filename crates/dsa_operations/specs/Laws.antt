@@ -1,33 +1,8 @@
 -- What the definitions promise of each other.
-use Rattle.std.specs.Prelude.{◌≡◌, ◌↔◌, ℕ, List, map, Ok}
-use Rattle.dsa_descriptor.specs.declared.descriptor.Descriptor.{Descriptor}
-use Rattle.dsa_descriptor.specs.Descriptors.{fields}
-use Rattle.dsa_ranges.specs.Ranges.{ConflictAt}
-use Rattle.dsa_plan.specs.Certificate.{Contents}
-use Rattle.dsa_plan.specs.EmissionFaults.{IsEmission}
-use Rattle.dsa_plan.specs.Plan.{Plan}
-use Rattle.dsa_plan.specs.Settings.{Limits}
-use Rattle.dsa_calls.specs.Checked.{Checks, ChecksSubmitted}
+use Rattle.std.specs.Prelude.{◌≡◌}
 use Rattle.dsa_operations.specs.declared.operation.Operation.{Operation}
-use Rattle.dsa_operations.specs.declared.operation.Operation.TheVariants as operation
-use Rattle.dsa_operations.specs.Operations.{OperationConflictAt, operation_kind, spelling_of}
+use Rattle.dsa_operations.specs.Operations.{spelling_of}
 
 -- two operations with the same spelling are equal
 abbrev pub OneSpelling : Type 0
 OneSpelling = (o p : Operation) → spelling_of o ≡ spelling_of p → o ≡ p
-
--- descriptors conflict as operations exactly if they do as descriptors
-abbrev pub DescriptorsConflictAlike : Type 0
-DescriptorsConflictAlike =
-    (ds : List Descriptor) (i j : ℕ) → ConflictAt (map fields ds) i j ↔ OperationConflictAt (map operation.Descriptor ds) i j
-
--- what is accepted as submitting descriptors is accepted as submitting operations, at the same cost
-abbrev pub DescriptorsAreSubmittedAlike : Type 0
-DescriptorsAreSubmittedAlike = (portal staging : List ℕ) (s : Limits) (c : Contents) (cost : ℕ) →
-    Checks portal staging s c (Ok cost) → ChecksSubmitted operation_kind OperationConflictAt portal staging s c (Ok cost)
-
--- and what is accepted as submitting operations, if it submits descriptors, is accepted as submitting these
-abbrev pub OperationsAreSubmittedAlike : Type 0
-OperationsAreSubmittedAlike = (portal staging : List ℕ) (s : Limits) (c : Contents) (cost : ℕ) (plan : Plan) (ds : List Descriptor) →
-    IsEmission s portal staging plan ds → ChecksSubmitted operation_kind OperationConflictAt portal staging s c (Ok cost) →
-    Checks portal staging s c (Ok cost)

@@ -10,7 +10,3 @@ pub mod Faults
 pub mod Operations
 pub mod Laws
 pub mod Samples
-pub mod Submissions
-pub mod Checking
-pub mod AnyLists
-pub mod Resuming

@@ -5,7 +5,6 @@ use Rattle.dsa_descriptor.specs.Descriptors.{fields}
 use Rattle.dsa_descriptor.specs.Spelling.{spelling}
 use Rattle.dsa_ranges.specs.Pieces.{Kind, PieceConflictAt, kind_of}
 use Rattle.dsa_ranges.specs.Ranges.{read_spans, written_spans}
-use Rattle.dsa_tracker.specs.declared.owner.Owner.{Owner}
 use Rattle.dsa_operations.specs.declared.operation.Operation.{Operation}
 use Rattle.dsa_operations.specs.declared.operation.Operation.TheVariants.{Descriptor, Checksum}
 use Rattle.dsa_operations.specs.Checksums.{checksum_fields}
@@ -41,8 +40,3 @@ size_of (Checksum c) = c.size
 -- what a plan has to know of operations
 abbrev pub operation_kind : Kind Operation
 operation_kind = kind_of spelling_of OperationKeeps size_of reads_of writes_of
-
--- whose addresses an operation names (specification 341204, descriptor format)
-abbrev pub owner_of : Operation → Owner
-owner_of (Descriptor d) = record { pasid = d.pasid; privileged = d.privileged }
-owner_of (Checksum c) = record { pasid = c.pasid; privileged = c.privileged }

@@ -138,7 +138,7 @@ impl ChecksumOp {
     }
 
     /// What the operation reads.
-    pub(crate) fn sources(&self, size: u32) -> ArrayVec<Span, 2>
+    pub fn sources(&self, size: u32) -> ArrayVec<Span, 2>
         ensures { result.items ≡ sources self.now size }
     {
         let source = Span::of(self.source_field(), size);
@@ -149,7 +149,7 @@ impl ChecksumOp {
     }
 
     /// What the operation writes, beside its completion record.
-    pub(crate) fn targets(&self, size: u32) -> ArrayVec<Span, 2>
+    pub fn targets(&self, size: u32) -> ArrayVec<Span, 2>
         ensures { result.items ≡ targets self.now size }
     {
         match *self {

@@ -2,7 +2,7 @@
 //! proof shows.
 
 ghost use Rattle.std.specs.Prelude.{◌≡◌};
-ghost use Rattle.dsa_operations.specs.Laws.{DescriptorsAreSubmittedAlike, DescriptorsConflictAlike, OneSpelling, OperationsAreSubmittedAlike};
+ghost use Rattle.dsa_operations.specs.Laws.{OneSpelling};
 ghost use Rattle.dsa_operations.specs.Profile.{IsListedChecksum};
 ghost use Rattle.dsa_operations.specs.Samples.{sample_copy, sample_copy_bytes, sample_given, sample_given_bytes, sample_in_memory, sample_in_memory_bytes};
 ghost use Rattle.dsa_operations.specs.Spelling.{checksum_spelling};
@@ -10,18 +10,6 @@ ghost use Rattle.dsa_operations.specs.Spelling.{checksum_spelling};
 /// Two operations with the same spelling are equal.
 pub fn one_spelling()
     ensures { OneSpelling }
-{}
-
-/// Descriptors conflict as operations of a list exactly if they conflict as descriptors.
-pub fn descriptors_conflict_alike()
-    ensures { DescriptorsConflictAlike }
-{}
-
-/// What [`check_bytes`](dsa_calls::check_bytes()) accepts is accepted alike as submitting operations, at the same cost;
-/// and if bytes submit descriptors, it accepts what is accepted as submitting operations.
-pub fn descriptors_are_submitted_alike()
-    ensures there { DescriptorsAreSubmittedAlike }
-    ensures back { OperationsAreSubmittedAlike }
 {}
 
 /// The spelling, computed on a checksum with a given seed, on one with a seed in memory and on a copy.

@@ -6,9 +6,8 @@ use dsa_descriptor::{
     FieldFault, ListFault, descriptors_are_fenced_alike, entries_read_back, read_entries,
     write_entries,
 };
-use dsa_operations::{
-    Operation, OperationList, check_any_list, plan_any_list, plan_operation_list, search_operations,
-};
+use dsa_lists::{check_any_list, plan_any_list, plan_operation_list, search_operations};
+use dsa_operations::{Operation, OperationList};
 use dsa_plan::{LegalFault, Settings};
 use dsa_splitter::SplitFault;
 use std::test::Fail;

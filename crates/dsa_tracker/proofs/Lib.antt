@@ -1,3 +1,4 @@
+pub mod Addressable
 pub mod Bits
 pub mod Owners
 pub mod Deciding

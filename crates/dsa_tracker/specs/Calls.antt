@@ -3,6 +3,8 @@ use Rattle.std.specs.Prelude.{◌≡◌, ◌≢◌, ℕ, ◌+◌, ◌*◌, ◌<�
 use Rattle.dsa_descriptor.specs.declared.descriptor.Descriptor.{Descriptor}
 use Rattle.dsa_descriptor.specs.declared.span.Span.{Span}
 use Rattle.dsa_descriptor.specs.Spans.{InSome, IsAddressable}
+use Rattle.dsa_operations.specs.declared.operation.Operation.{Operation}
+use Rattle.dsa_operations.specs.declared.operation.Operation.TheVariants as operation
 use Rattle.dsa_tracker.specs.declared.fault.TrackFault.{TrackFault}
 use Rattle.dsa_tracker.specs.declared.fault.TrackFault.TheVariants.{NoSlot, TooManySpans, NotOutstanding, Held, Wrap, OtherOwner, OtherPlan, FewSlots}
 use Rattle.dsa_tracker.specs.declared.owner.Owner.{Owner}
@@ -23,6 +25,11 @@ IsFirstPast spans i =
 -- the owner that a descriptor names
 abbrev pub owner_of : Descriptor → Owner
 owner_of d = record { pasid = d.pasid; privileged = d.privileged }
+
+-- the owner that an operation names (specification 341204, descriptor format)
+abbrev pub operation_owner : Operation → Owner
+operation_owner (operation.Descriptor d) = owner_of d
+operation_owner (operation.Checksum c) = record { pasid = c.pasid; privileged = c.privileged }
 
 -- the owner once these pieces came: the one that was known, else that of the first piece
 abbrev pub owner_with : {P : Type 0} → (P → Owner) → Option Owner → List P → Option Owner

@@ -3,11 +3,12 @@
 ghost use Rattle.std.specs.Prelude.{◌≡◌, ◌^◌, ◌≤◌, [], ◌∷◌, drop, length, take};
 ghost use Rattle.dsa_descriptor.specs.Spans.{IsAddressable};
 ghost use Rattle.dsa_tracker.specs.declared.owner.Owner.{Owner};
-ghost use Rattle.dsa_tracker.specs.Calls.{AreAddressable, owner_of};
+ghost use Rattle.dsa_tracker.specs.Calls.{AreAddressable, operation_owner, owner_of};
 
 use crate::owner::Owner;
 use arrayvec::ArrayVec;
 use dsa_descriptor::{Descriptor, Span, record_span};
+use dsa_operations::Operation;
 use dsa_ranges::Piece;
 
 /// A piece that a submission may have. It reads at most two spans, and writes its completion record and at most two
@@ -66,5 +67,46 @@ impl Tracked for Descriptor {
     #[inline(always)]
     fn completion_record(&self) -> Span {
         record_span(self.record_at)
+    }
+}
+
+impl Tracked for Operation {
+    ghost owner = { operation_owner };
+
+    fn are_few(_pieces: &[Self]) {}
+
+    #[inline(always)]
+    fn named_owner(&self) -> Owner {
+        match self {
+            Operation::Descriptor(descriptor) => descriptor.named_owner(),
+            Operation::Checksum(checksum) => Owner {
+                pasid: checksum.pasid,
+                privileged: checksum.privileged,
+            },
+        }
+    }
+
+    #[inline(always)]
+    fn sources(&self) -> ArrayVec<Span, 2> {
+        match self {
+            Operation::Descriptor(descriptor) => descriptor.sources(),
+            Operation::Checksum(checksum) => checksum.op.sources(checksum.size),
+        }
+    }
+
+    #[inline(always)]
+    fn targets(&self) -> ArrayVec<Span, 2> {
+        match self {
+            Operation::Descriptor(descriptor) => descriptor.targets(),
+            Operation::Checksum(checksum) => checksum.op.targets(checksum.size),
+        }
+    }
+
+    #[inline(always)]
+    fn completion_record(&self) -> Span {
+        match self {
+            Operation::Descriptor(descriptor) => descriptor.completion_record(),
+            Operation::Checksum(checksum) => record_span(checksum.record_at),
+        }
     }
 }

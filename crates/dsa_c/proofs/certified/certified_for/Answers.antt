@@ -1,5 +1,5 @@
 use Rattle.std.proofs.Common.{inl, inr}
-use Rattle.dsa_operations.specs.Submissions.{operation_submission_of}
+use Rattle.dsa_lists.specs.Submissions.{operation_submission_of}
 use Rattle.dsa_c.proofs.certified.certified_for.Goals as goal
 
 pub returns-in-Err-certified_of : goal.returns-in-Err-certified_of

@@ -1,5 +1,5 @@
 use Rattle.std.proofs.Common.{length, ap, ◌∙◌, arith}
-use Rattle.dsa_operations.specs.Submissions.{operation_submission_of}
+use Rattle.dsa_lists.specs.Submissions.{operation_submission_of}
 use Rattle.dsa_c.proofs.Agreeing.{marks_count}
 use Rattle.dsa_c.proofs.Refusing.{as_many}
 use Rattle.dsa_c.proofs.certified.dsa_plan_list_certified.Goals as goal

@@ -4,7 +4,7 @@ use Rattle.dsa_plan.specs.Settings.{Limits}
 use Rattle.dsa_calls.specs.declared.checking.FencedFault.{FencedFault}
 use Rattle.dsa_calls.specs.declared.checking.FencedFault.TheVariants.{Call}
 use Rattle.dsa_calls.specs.declared.fault.PlanFault.TheVariants.{Memory}
-use Rattle.dsa_operations.specs.AnyLists.{ChecksAnyList}
+use Rattle.dsa_lists.specs.AnyLists.{ChecksAnyList}
 use Rattle.dsa_c.specs.Certificates.{contents_of}
 use Rattle.dsa_c.specs.Checking.{list_refusal_of}
 use Rattle.dsa_c.proofs.Refusing.{checked_list_cost, list_fault, refuses}

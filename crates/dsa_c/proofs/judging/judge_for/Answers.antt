@@ -1,6 +1,6 @@
 use Rattle.std.proofs.Common.{Err, refl}
 use Rattle.dsa_calls.specs.declared.fault.PlanFault.TheVariants.{Memory}
-use Rattle.dsa_operations.specs.AnyLists.{JudgesAnyList}
+use Rattle.dsa_lists.specs.AnyLists.{JudgesAnyList}
 use Rattle.dsa_c.specs.Marks.{plan_of}
 use Rattle.dsa_c.specs.Raw.{refusal_of}
 use Rattle.dsa_c.proofs.Refusing.{refuses}

@@ -1,5 +1,5 @@
 use Rattle.std.proofs.Common.{rules, ◌⊎◌, ◌<◌, inl, inr, length, arith}
-use Rattle.dsa_operations.specs.Submissions.{OperationSubmission, operation_submission_of}
+use Rattle.dsa_lists.specs.Submissions.{OperationSubmission, operation_submission_of}
 use Rattle.dsa_c.proofs.Refusing.{planned_list, refuses_any_list, refuses_buffers}
 use Rattle.dsa_c.proofs.planning.plan_under.Goals as goal
 use Rattle.dsa_c.proofs.planning.plan_under.Goals.{else-portal_len-portal_room-via-then-portal_len-portal_room+else-staging_len-staging_room, else-portal_len-portal_room-via-else-portal_len-portal_room}

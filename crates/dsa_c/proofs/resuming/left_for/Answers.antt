@@ -3,7 +3,7 @@ use Rattle.std.proofs.lemmas.Grind.{common_steps}
 use Rattle.dsa_calls.specs.declared.fault.PlanFault.TheVariants.{Memory}
 use Rattle.dsa_resume.specs.declared.fault.ResumeFault.TheVariants.{Plan}
 use Rattle.dsa_resume.specs.Rest.{remainder_of}
-use Rattle.dsa_operations.specs.Resuming.{ResumesAnyList}
+use Rattle.dsa_lists.specs.Resuming.{ResumesAnyList}
 use Rattle.dsa_c.specs.Resuming.{IsLeftOf, order_of, resume_refusal_of}
 use Rattle.dsa_c.proofs.Refusing.{refuses}
 use Rattle.dsa_c.proofs.WhatIsLeft.{left_of_settings, refuses_room}

@@ -2,7 +2,7 @@ use Rattle.std.proofs.Common.{inl, refl, sym, List, subst}
 use Rattle.dsa_descriptor.specs.declared.descriptor.Descriptor.{Descriptor}
 use Rattle.dsa_calls.specs.Fenced.{AreFencedPieces}
 use Rattle.dsa_operations.specs.declared.operation.Operation.{Operation}
-use Rattle.dsa_operations.specs.Submissions.{AreReady}
+use Rattle.dsa_lists.specs.Submissions.{AreReady}
 use Rattle.dsa_c.specs.declared.settings.RawSettings.{RawSettings}
 use Rattle.dsa_c.specs.Planning.{RefusesToPlan}
 use Rattle.dsa_c.specs.Raw.{limits_of}

@@ -1,0 +1,5 @@
+pub mod Laws
+pub mod Submissions
+pub mod Checking
+pub mod AnyLists
+pub mod Resuming

@@ -1,7 +1,0 @@
-use Rattle.dsa_operations.specs.Submissions.{TouchesArea}
-use Rattle.dsa_operations.proofs.First.{NoneBefore}
-use Rattle.dsa_operations.proofs.submitting.first_meeting.Given as goal
-
--- none so far meets the area
-abbrev pub invariant-loop-index : goal.invariant-loop-index
-invariant-loop-index l = NoneBefore (TouchesArea l.area) l.operations l.index

@@ -7,6 +7,7 @@ pub mod ProfileProps
 pub mod Places
 pub mod Spelling
 pub mod Faults
+pub mod OperationFields
 pub mod Operations
 pub mod Laws
 pub mod Samples

@@ -2,7 +2,6 @@
 use Rattle.std.specs.Prelude.{ℕ, List}
 use Rattle.dsa_descriptor.specs.declared.span.Span.{Span}
 use Rattle.dsa_descriptor.specs.Descriptors.{fields}
-use Rattle.dsa_descriptor.specs.Spelling.{spelling}
 use Rattle.dsa_ranges.specs.Pieces.{Kind, PieceConflictAt, kind_of}
 use Rattle.dsa_ranges.specs.Ranges.{read_spans, written_spans}
 use Rattle.dsa_operations.specs.declared.operation.Operation.{Operation}
@@ -10,12 +9,11 @@ use Rattle.dsa_operations.specs.declared.operation.Operation.TheVariants.{Descri
 use Rattle.dsa_operations.specs.Checksums.{checksum_fields}
 use Rattle.dsa_operations.specs.Data.{checksum_reads, checksum_writes}
 use Rattle.dsa_operations.specs.Faults.{OperationKeeps}
-use Rattle.dsa_operations.specs.Spelling.{checksum_spelling}
+use Rattle.dsa_operations.specs.OperationFields.{fields_spelling, operation_fields}
 
 -- the 64 bytes of an operation (specification 341204, descriptor format)
 abbrev pub spelling_of : Operation → List ℕ
-spelling_of (Descriptor d) = spelling (fields d)
-spelling_of (Checksum c) = checksum_spelling (checksum_fields c)
+spelling_of operation = fields_spelling (operation_fields operation)
 
 -- all that an operation reads (specification 341204, operations)
 abbrev pub reads_of : Operation → List Span

@@ -205,7 +205,7 @@ def grammar():
         (f"{PAIR},", 33, option),
         (f"{PAIR}, pasid 0x100000", 40, "a number below 2^20"),
         (f"{PAIR}, pasid 1, pasid 1", 43, option),
-        (f"{PAIR}, flags 4", 40, "flags of 0x0002, 0x0020 and 0x0100 to 0x8000"),
+        (f"{PAIR}, flags 4", 40, "flags of 0x0002, 0x0020, 0x0100 to 0x8000, 0x020000 and 0x040000"),
         (f"{PAIR}, handle 65536", 41, "a number below 2^16"),
     ]:
         refused("assemble", line, f"line 1, column {column}: expected {words}, found ", "130 Line")

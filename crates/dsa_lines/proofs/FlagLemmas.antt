@@ -1,7 +1,8 @@
--- The flags of a listed descriptor are the required ones, the carried ones and check result.
+-- The flags of an operation of a list are the required ones, the carried ones, check result, and that of a seed in memory.
 use Rattle.std.proofs.Common.{◌≡◌, ℕ, zero, suc, ◌+◌, ◌*◌, ◌^◌, ◌<◌, ◌==◌, Bool, true, cond, min, max, inl, inr, refl, sym, ap, ◌∙◌, arith}
 use Rattle.std.specs.Prelude.{bit_and, bit_or, not, ◌&&◌}
 use Rattle.std.specs.Int.{bit_at}
+use Rattle.std.specs.Int.Bits.{or_zero_r}
 use Rattle.std.proofs.lemmas.Bool.{and_parts, cases_lt, eqb-true}
 use Rattle.std.proofs.lemmas.Nat.{and_le_r}
 use Rattle.std.proofs.lemmas.Nat.Bits.{bit_at_and, bit_at_or, bit_at-zero, bit_at-lt, and_pow, same_from_bits, bit_at_above}
@@ -10,9 +11,17 @@ use Rattle.dsa_descriptor.specs.declared.op.Op.TheVariants.{Move, Fill, Compare,
 use Rattle.dsa_descriptor.specs.Profile.{required_flags, refused_flags, AreListedFlags}
 use Rattle.dsa_lines.specs.Options.{carried_mask, check_mask, carried_flags, checks_result, flags_with}
 
+-- the flags that neither kind of operation may have, whatever it does
+abbrev refused_mask : ℕ
+refused_mask = 0xf80051
+
+-- the flag that says that a seed is read from memory
+abbrev seed_mask : ℕ
+seed_mask = 0x010000
+
 -- each bit below the count is in one of the masks, and in one alone
 abbrev parts_at : ℕ → Bool
-parts_at i = bit_at required_flags i + bit_at carried_mask i + bit_at check_mask i + bit_at 0xff0051 i == 1
+parts_at i = bit_at required_flags i + bit_at carried_mask i + bit_at check_mask i + bit_at seed_mask i + bit_at refused_mask i == 1
 
 abbrev parts_below : ℕ → Bool
 parts_below zero = true
@@ -27,8 +36,8 @@ parted (suc n) i e lt =
       | inr top ↦ let same : i ≡ n = omega arith in rw same p.0
     ]
 
--- what each operation refuses has these bits
-refuses : (op : Op) → bit_and (refused_flags op) 0xff0051 ≡ 0xff0051
+-- what each operation of a descriptor refuses has these bits, and that of a seed
+refuses : (op : Op) → bit_and (refused_flags op) 0xf90051 ≡ 0xf90051
 refuses (Move src dst) = refl
 refuses (Fill pattern dst) = refl
 refuses (Compare src src2 expected) = refl
@@ -39,12 +48,17 @@ refuses (Dualcast src dst dst2) = refl
 none_of_three : (f m r : ℕ) → f < 2 → m < 2 → r < 2 → min f m ≡ 0 → min m r ≡ r → min f r ≡ 0
 none_of_three f m r a b c d e = omega arith
 
-refused_bit : (op : Op) (flags i : ℕ) → bit_and flags (refused_flags op) ≡ 0 → min (bit_at flags i) (bit_at 0xff0051 i) ≡ 0
-refused_bit op flags i none =
-    none_of_three (bit_at flags i) (bit_at (refused_flags op) i) (bit_at 0xff0051 i)
-    (bit_at-lt flags i) (bit_at-lt (refused_flags op) i) (bit_at-lt 0xff0051 i)
-    (sym (bit_at_and flags (refused_flags op) i) ∙ ap (λ (n : ℕ). bit_at n i) none ∙ bit_at-zero i)
-    (sym (bit_at_and (refused_flags op) 0xff0051 i) ∙ ap (λ (n : ℕ). bit_at n i) (refuses op))
+-- flags without those of a mask have none of a part of it
+part_bit : (flags mask part i : ℕ) → bit_and flags mask ≡ 0 → bit_and mask part ≡ part → min (bit_at flags i) (bit_at part i) ≡ 0
+part_bit flags mask part i none whole =
+    none_of_three (bit_at flags i) (bit_at mask i) (bit_at part i)
+    (bit_at-lt flags i) (bit_at-lt mask i) (bit_at-lt part i)
+    (sym (bit_at_and flags mask i) ∙ ap (λ (n : ℕ). bit_at n i) none ∙ bit_at-zero i)
+    (sym (bit_at_and mask part i) ∙ ap (λ (n : ℕ). bit_at n i) whole)
+
+part_none : (flags mask part : ℕ) → bit_and flags mask ≡ 0 → bit_and mask part ≡ part → bit_and flags part ≡ 0
+part_none flags mask part none whole =
+    same_from_bits (bit_and flags part) 0 (λ i. bit_at_and flags part i ∙ part_bit flags mask part i none whole ∙ sym (bit_at-zero i))
 
 required_bit : (flags i : ℕ) → bit_and flags required_flags ≡ required_flags → min (bit_at flags i) (bit_at required_flags i) ≡ bit_at required_flags i
 required_bit flags i all = sym (bit_at_and flags required_flags i) ∙ ap (λ (n : ℕ). bit_at n i) all
@@ -61,42 +75,56 @@ check_is flags = check_value (bit_and flags check_mask) (bit_at flags 7) (and_po
 
 -- ---- all bits
 
-one_bit : (f a c k r : ℕ) → f < 2 → a < 2 → c < 2 → k < 2 → r < 2 → a + c + k + r ≡ 1 → min f a ≡ a → min f r ≡ 0
-    → max (max a (min f c)) (min f k) ≡ f
-one_bit f a c k r f2 a2 c2 k2 r2 one required refused = omega arith
+one_bit : (f a c k m r : ℕ) → f < 2 → a < 2 → c < 2 → k < 2 → m < 2 → r < 2 → a + c + k + m + r ≡ 1 → min f a ≡ a → min f r ≡ 0
+    → max (max (max a (min f c)) (min f k)) (min f m) ≡ f
+one_bit f a c k m r f2 a2 c2 k2 m2 r2 one required refused = omega arith
 
-no_bit : (f a c k : ℕ) → f ≡ 0 → a ≡ 0 → max (max a (min f c)) (min f k) ≡ f
-no_bit f a c k fz az = omega arith
+no_bit : (f a c k m : ℕ) → f ≡ 0 → a ≡ 0 → max (max (max a (min f c)) (min f k)) (min f m) ≡ f
+no_bit f a c k m fz az = omega arith
+
+-- the flags in their parts, but for those that are refused
+abbrev gathered : ℕ → ℕ
+gathered flags = bit_or (bit_or (bit_or required_flags (carried_flags flags)) (bit_and flags check_mask)) (bit_and flags seed_mask)
 
 spread : (flags i : ℕ)
-    → bit_at (bit_or (bit_or required_flags (carried_flags flags)) (bit_and flags check_mask)) i
-    ≡ max (max (bit_at required_flags i) (min (bit_at flags i) (bit_at carried_mask i))) (min (bit_at flags i) (bit_at check_mask i))
+    → bit_at (gathered flags) i
+    ≡ max (max (max (bit_at required_flags i) (min (bit_at flags i) (bit_at carried_mask i))) (min (bit_at flags i) (bit_at check_mask i))) (min (bit_at flags i) (bit_at seed_mask i))
 spread flags i =
     rw (
+      bit_at_or (bit_or (bit_or required_flags (carried_flags flags)) (bit_and flags check_mask)) (bit_and flags seed_mask) i,
       bit_at_or (bit_or required_flags (carried_flags flags)) (bit_and flags check_mask) i,
       bit_at_or required_flags (carried_flags flags) i,
       bit_at_and flags carried_mask i,
       bit_at_and flags check_mask i,
+      bit_at_and flags seed_mask i,
     ) refl
 
-bit_again : (op : Op) (flags i : ℕ) → AreListedFlags op flags → flags < 2 ^ 24
-    → max (max (bit_at required_flags i) (min (bit_at flags i) (bit_at carried_mask i))) (min (bit_at flags i) (bit_at check_mask i)) ≡ bit_at flags i
-bit_again op flags i listed fit =
-    elim (cases_lt i 24) [
+bit_again : (flags i : ℕ) → bit_and flags required_flags ≡ required_flags → bit_and flags refused_mask ≡ 0 → flags < 2 ^ 24 → bit_at (gathered flags) i ≡ bit_at flags i
+bit_again flags i required refused fit =
+    spread flags i
+    ∙ elim (cases_lt i 24) [
       | inl below ↦
-          one_bit (bit_at flags i) (bit_at required_flags i) (bit_at carried_mask i) (bit_at check_mask i) (bit_at 0xff0051 i)
-          (bit_at-lt flags i) (bit_at-lt required_flags i) (bit_at-lt carried_mask i) (bit_at-lt check_mask i) (bit_at-lt 0xff0051 i)
-          (eqb-true _ _ (parted 24 i refl below)) (required_bit flags i listed.required) (refused_bit op flags i listed.refused)
+          one_bit (bit_at flags i) (bit_at required_flags i) (bit_at carried_mask i) (bit_at check_mask i) (bit_at seed_mask i) (bit_at refused_mask i)
+          (bit_at-lt flags i) (bit_at-lt required_flags i) (bit_at-lt carried_mask i) (bit_at-lt check_mask i) (bit_at-lt seed_mask i) (bit_at-lt refused_mask i)
+          (eqb-true _ _ (parted 24 i refl below)) (required_bit flags i required) (part_bit flags refused_mask refused_mask i refused refl)
       | inr above ↦
-          no_bit (bit_at flags i) (bit_at required_flags i) (bit_at carried_mask i) (bit_at check_mask i)
+          no_bit (bit_at flags i) (bit_at required_flags i) (bit_at carried_mask i) (bit_at check_mask i) (bit_at seed_mask i)
           (bit_at_above flags 24 i fit above) (bit_at_above required_flags 24 i (omega arith) above)
     ]
 
--- the options of the canonical line give the flags
+-- the options of the canonical line and what the seed says give the flags
+parts_again : (flags told : ℕ) → bit_and flags required_flags ≡ required_flags → bit_and flags refused_mask ≡ 0 → flags < 2 ^ 24 → told ≡ bit_and flags seed_mask
+    → bit_or (flags_with (carried_flags flags) (checks_result flags)) told ≡ flags
+parts_again flags told required refused fit is =
+    (λ i. bit_or (bit_or (bit_or required_flags (carried_flags flags)) (check_is flags i)) (is i))
+    ∙ same_from_bits (gathered flags) flags (λ i. bit_again flags i required refused fit)
+
+-- those of a descriptor, which has no seed
 pub flags_again : (op : Op) (flags : ℕ) → AreListedFlags op flags → flags < 2 ^ 24 → flags_with (carried_flags flags) (checks_result flags) ≡ flags
 flags_again op flags listed fit =
-    ap (bit_or (bit_or required_flags (carried_flags flags))) (check_is flags)
-    ∙ same_from_bits (bit_or (bit_or required_flags (carried_flags flags)) (bit_and flags check_mask)) flags (λ i. spread flags i ∙ bit_again op flags i listed fit)
+    let refused = part_none flags (refused_flags op) 0xf90051 listed.refused (refuses op) in
+    sym (or_zero_r (flags_with (carried_flags flags) (checks_result flags)))
+    ∙ parts_again flags 0 listed.required (part_none flags 0xf90051 refused_mask refused refl) fit (sym (part_none flags 0xf90051 seed_mask refused refl))
 
 -- ---- the carried flags
 
@@ -112,5 +140,5 @@ carried_again flags =
     ∙ sym (bit_at_and flags carried_mask i)
     )
 
-pub carried_fit : (flags : ℕ) → carried_flags flags < 2 ^ 16
+pub carried_fit : (flags : ℕ) → carried_flags flags < 2 ^ 24
 carried_fit flags = omega (arith, and_le_r flags carried_mask)

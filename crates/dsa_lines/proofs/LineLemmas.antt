@@ -2,8 +2,7 @@
 use Rattle.std.proofs.Common.{◌≡◌, ℕ, Bool, true, false, cond, List, [], ◌∷◌, ◌++◌, length, refl, arith}
 use Rattle.std.specs.Prelude.{not, ◌==◌, ◌&&◌}
 use Rattle.std.proofs.lemmas.Bool.{ne_eqb, eqb-true}
-use Rattle.dsa_descriptor.specs.Fields.{Fields}
-use Rattle.dsa_descriptor.specs.Profile.{IsListed}
+use Rattle.dsa_operations.specs.OperationFields.{OperationFields, AreListedFields}
 use Rattle.dsa_lines.specs.Words.{Word, is_in_word}
 use Rattle.dsa_lines.specs.Text.{spaced, tail_text, text_of, line_words, line_text}
 use Rattle.dsa_lines.proofs.WordLemmas.{all_in, is_word, both, AreWords}
@@ -50,6 +49,6 @@ pub words_line : (ws : List Word) → AreWords ws → is_line (text_of ws) ≡ t
 words_line [] all = refl
 words_line (w ∷ ws) all = line_append w (tail_text ws) (word_line w all.0) (tail_line ws all.1)
 
-pub canonical_is_line : (f : Fields) → IsListed f → is_line (line_text f) ≡ true
+pub canonical_is_line : (f : OperationFields) → AreListedFields f → is_line (line_text f) ≡ true
 unfolding line_text
 canonical_is_line f listed = words_line (line_words f) (line_words_are f listed)

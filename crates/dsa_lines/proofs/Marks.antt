@@ -1,5 +1,5 @@
 -- The barriers of a text, and lists with barriers.
-use Rattle.std.proofs.Common.{◌≡◌, ◌≢◌, ℕ, zero, suc, ◌+◌, Bool, true, false, Some, List, [], ◌∷◌, ◌++◌, length, take, drop, get_or, map, refl, sym, ap, ◌∙◌, append_assoc, length-append, arith}
+use Rattle.std.proofs.Common.{◌≡◌, ◌≢◌, ℕ, zero, suc, ◌+◌, ◌<◌, Bool, true, false, Some, List, [], ◌∷◌, ◌++◌, length, take, drop, get_or, map, refl, sym, ap, ◌∙◌, append_assoc, length-append, arith}
 use Rattle.std.specs.Prelude.{codes, slice_get, if◌then◌else◌}
 use Rattle.std.specs.List.{AllByRecursion}
 use Rattle.std.specs.Str.{bytes_eq}
@@ -15,6 +15,9 @@ use Rattle.dsa_descriptor.specs.Spelling.{spelling}
 use Rattle.dsa_descriptor.proofs.Seen.{barriers_count}
 use Rattle.dsa_descriptor.specs.Fences.{with_fence, marked_spelling}
 use Rattle.dsa_descriptor.proofs.Fenced.{length-fenced_one, one_fenced}
+use Rattle.dsa_operations.specs.declared.operation.Operation.{Operation as AnyOperation}
+use Rattle.dsa_operations.specs.OperationFields.{OperationFields, operation_fields}
+use Rattle.dsa_operations.specs.OperationFields.OperationFields.{OfDescriptor}
 use Rattle.dsa_lines.specs.Assembled.{IsListing}
 use Rattle.dsa_lines.specs.Words.{Word, words_in, words_of}
 use Rattle.dsa_lines.specs.Grammar.{fields_of, op_at, ◌>>=◌}
@@ -43,13 +46,13 @@ no_marks keep pending = refl
 
 -- ---- the text of one operation more
 
-pub text_more : (fs : List Fields) (bs : List Bool) (i : ℕ) (f : Fields) → slice_get fs i ≡ Some f
+pub text_more : (fs : List OperationFields) (bs : List Bool) (i : ℕ) (f : OperationFields) → slice_get fs i ≡ Some f
     → marked_text (take (i + 1) fs) bs ≡ marked_text (take i fs) bs ++ (barrier_line (get_or bs i false) ++ text_line f)
 unfolding marked_text
 text_more [] bs i f h = cc
 text_more (x ∷ xs) bs zero f h =
     ap (λ (t : List ℕ). barrier_line (get_or bs 0 false) ++ t) (append-nil (text_line x))
-    ∙ ap (λ (z : Fields). barrier_line (get_or bs 0 false) ++ text_line z) (same_Some x f h)
+    ∙ ap (λ (z : OperationFields). barrier_line (get_or bs 0 false) ++ text_line z) (same_Some x f h)
 text_more (x ∷ xs) bs (suc i) f h =
     let next : suc i + 1 ≡ suc (i + 1) = omega arith in
     let barrier : List ℕ = barrier_line (get_or bs 0 false) in
@@ -60,6 +63,12 @@ text_more (x ∷ xs) bs (suc i) f h =
     ∙ ap (λ (t : List ℕ). barrier ++ t) (sym (append_assoc (text_line x) rest last))
     ∙ sym (append_assoc barrier (text_line x ++ rest) last)
     ∙ ap (λ (m : Bool). (barrier ++ (text_line x ++ rest)) ++ (barrier_line m ++ text_line f)) (dropped bs i)
+
+-- the fields of the operation at a place
+pub field_at : (os : List AnyOperation) (i : ℕ) (o : AnyOperation) → i < length os → o ≡ get_or os i o → slice_get (map operation_fields os) i ≡ Some (operation_fields o)
+field_at [] i o lt is = absurd (omega arith)
+field_at (x ∷ xs) zero o lt is = ap (λ (y : AnyOperation). Some (operation_fields y)) (sym is)
+field_at (x ∷ xs) (suc i) o lt is = field_at xs i o (omega arith) is
 
 pub none_written : (bs : List Bool) → marked_text [] bs ≡ []
 unfolding marked_text
@@ -186,36 +195,36 @@ spells_marked : (m : Bool) (rest : List ℕ) (fs : List Fields) → TextSpells r
 spells_marked false rest fs e = e
 spells_marked true rest fs e = line_before (codes "barrier") rest [] fs refl barrier_spells e
 
-marked_spells : (fs : List Fields) (marks : List Bool) → AllByRecursion IsListed fs → TextSpells (marked_text fs marks) fs
+marked_spells : (fs : List Fields) (marks : List Bool) → AllByRecursion IsListed fs → TextSpells (marked_text (map OfDescriptor fs) marks) fs
 unfolding marked_text
 marked_spells [] marks all = nothing
 marked_spells (f ∷ fs) marks all =
-    spells_marked (get_or marks 0 false) (text_line f ++ marked_text fs (drop 1 marks)) (f ∷ fs)
-    (line_before (line_text f) (marked_text fs (drop 1 marks)) (f ∷ []) fs (canonical_is_line f all.0)
-    (spelt_line (words_of (line_text f)) f (line_spells f all.0)) (marked_spells fs (drop 1 marks) all.1))
+    spells_marked (get_or marks 0 false) (text_line (OfDescriptor f) ++ marked_text (map OfDescriptor fs) (drop 1 marks)) (f ∷ fs)
+    (line_before (line_text (OfDescriptor f)) (marked_text (map OfDescriptor fs) (drop 1 marks)) (f ∷ []) fs (canonical_is_line (OfDescriptor f) all.0)
+    (spelt_line (words_of (line_text (OfDescriptor f))) f (line_spells f all.0)) (marked_spells fs (drop 1 marks) all.1))
 
 -- the mark of an operation whose line is before others
 operation_marks : (keep pending : Bool) (f : Fields) (rest : List ℕ) → IsListed f
-    → marks_from keep pending (lines_of (text_line f ++ rest)) ≡ pending ∷ marks_from keep false (lines_of rest)
+    → marks_from keep pending (lines_of (text_line (OfDescriptor f) ++ rest)) ≡ pending ∷ marks_from keep false (lines_of rest)
 operation_marks keep pending f rest listed =
-    let kind : line_kind (words_of (line_text f)) ≡ Operation = operation_kind (words_of (line_text f)) f (line_spells f listed) in
-    ap (λ (t : List ℕ). marks_from keep pending (lines_of t)) (append_assoc (line_text f) (10 ∷ []) rest)
-    ∙ ap (marks_from keep pending) (line_first (line_text f) rest (canonical_is_line f listed))
-    ∙ marks_next keep pending (line_text f) (lines_of rest)
+    let kind : line_kind (words_of (line_text (OfDescriptor f))) ≡ Operation = operation_kind (words_of (line_text (OfDescriptor f))) f (line_spells f listed) in
+    ap (λ (t : List ℕ). marks_from keep pending (lines_of t)) (append_assoc (line_text (OfDescriptor f)) (10 ∷ []) rest)
+    ∙ ap (marks_from keep pending) (line_first (line_text (OfDescriptor f)) rest (canonical_is_line (OfDescriptor f) listed))
+    ∙ marks_next keep pending (line_text (OfDescriptor f)) (lines_of rest)
     ∙ ap (λ (k : LineKind). line_marks keep pending k ++ marks_from keep (pending_after pending k) (lines_of rest)) kind
 
 -- a barrier before it, if it is marked
 marked_first : (keep m : Bool) (f : Fields) (rest : List ℕ) → IsListed f
-    → marks_from keep false (lines_of (barrier_line m ++ (text_line f ++ rest))) ≡ m ∷ marks_from keep false (lines_of rest)
+    → marks_from keep false (lines_of (barrier_line m ++ (text_line (OfDescriptor f) ++ rest))) ≡ m ∷ marks_from keep false (lines_of rest)
 marked_first keep false f rest listed = operation_marks keep false f rest listed
 marked_first keep true f rest listed =
-    ap (marks_from keep false) (line_first (codes "barrier") (text_line f ++ rest) refl)
-    ∙ marks_next keep false (codes "barrier") (lines_of (text_line f ++ rest))
-    ∙ ap (λ (k : LineKind). line_marks keep false k ++ marks_from keep (pending_after false k) (lines_of (text_line f ++ rest))) barrier_kind
+    ap (marks_from keep false) (line_first (codes "barrier") (text_line (OfDescriptor f) ++ rest) refl)
+    ∙ marks_next keep false (codes "barrier") (lines_of (text_line (OfDescriptor f) ++ rest))
+    ∙ ap (λ (k : LineKind). line_marks keep false k ++ marks_from keep (pending_after false k) (lines_of (text_line (OfDescriptor f) ++ rest))) barrier_kind
     ∙ operation_marks keep true f rest listed
 
 marks_again : (keep : Bool) (fs : List Fields) (marks : List Bool) → AllByRecursion IsListed fs → length marks ≡ length fs
-    → marks_from keep false (lines_of (marked_text fs marks)) ≡ marks
+    → marks_from keep false (lines_of (marked_text (map OfDescriptor fs) marks)) ≡ marks
 unfolding marked_text
 marks_again keep [] [] all e =
     ap (marks_from keep false) no_lines ∙ marks_next keep false [] []
@@ -223,7 +232,7 @@ marks_again keep [] [] all e =
 marks_again keep [] (m ∷ ms) all e = absurd (omega arith)
 marks_again keep (f ∷ fs) [] all e = absurd (omega arith)
 marks_again keep (f ∷ fs) (m ∷ ms) all e =
-    marked_first keep m f (marked_text fs ms) all.0 ∙ ap (λ (bs : List Bool). m ∷ bs) (marks_again keep fs ms all.1 (omega arith))
+    marked_first keep m f (marked_text (map OfDescriptor fs) ms) all.0 ∙ ap (λ (bs : List Bool). m ∷ bs) (marks_again keep fs ms all.1 (omega arith))
 
 pub marked_text_spells : MarkedTextSpells
 marked_text_spells keep fs marks all e = (marked_spells fs marks all, marks_again keep fs marks all e)

@@ -6,7 +6,7 @@ use Rattle.std.specs.Str.{bytes_eq}
 use Rattle.std.specs.Int.{w64, from_le_bytes}
 use Rattle.std.proofs.lemmas.Bool.{leb-true, eqb-true, eqb-false, ne_eqb}
 use Rattle.std.proofs.lemmas.List.Elements.{All-head}
-use Rattle.std.proofs.lemmas.Nat.{or_of_16}
+use Rattle.std.proofs.lemmas.Nat.{or_lt}
 use Rattle.std.proofs.lemmas.Option.{same_Some, cond_some}
 use Rattle.hex.specs.Hex.{IsBytes, decode_sized, is_hex_digit}
 use Rattle.hex.specs.declared.error.FromHexError.{FromHexError}
@@ -105,11 +105,11 @@ one_of false o p y e first second = second e
 
 -- ---- words that are no newline
 
-abbrev begins_newline : Word → Bool
+abbrev pub begins_newline : Word → Bool
 begins_newline [] = false
 begins_newline (c ∷ cs) = c == 10
 
-abbrev Lined : List Word → Type 0
+abbrev pub Lined : List Word → Type 0
 Lined ws = AllByRecursion (λ w. begins_newline w ≡ false) ws
 
 same_lined : (w word : Word) → bytes_eq w word ≡ true → begins_newline word ≡ false → begins_newline w ≡ false
@@ -391,8 +391,8 @@ op_fits (w ∷ ws) r e =
 
 -- ---- options
 
-abbrev OptionsFit : Options → Type 0
-OptionsFit o = (or_zero o.pasid < 2 ^ 20) × (or_zero o.flags < 2 ^ 16) × (or_zero o.handle < 2 ^ 16)
+abbrev pub OptionsFit : Options → Type 0
+OptionsFit o = (or_zero o.pasid < 2 ^ 20) × (or_zero o.flags < 2 ^ 24) × (or_zero o.handle < 2 ^ 16)
 
 abbrev NextFits : List Word → Options × List Word → Type 0
 NextFits ws r = OptionsFit r.0 × (Lined r.1 → Lined ws)
@@ -418,11 +418,11 @@ flags_option : (o : Options) (ws : List Word) (r : Options × List Word) → Opt
 unfolding flags_at
 flags_option o ws r fit e =
     let free = unless (is_some o.flags) _ r e in
-    let n = bound (number_at (greatest 16) ws) _ r free in
-    let fits = number_fits (greatest 16) ws n.0 n.1 in
-    let small : n.0.0 < 2 ^ 16 = omega arith in
+    let n = bound (number_at (greatest 24) ws) _ r free in
+    let fits = number_fits (greatest 24) ws n.0 n.1 in
+    let small : n.0.0 < 2 ^ 24 = omega arith in
     let h = cond_some (bit_and n.0.0 carried_mask == n.0.0) _ r n.2 in
-    subst (NextFits ws) h.1 ((fit.0, small, fit.2), λ l. number_lined (greatest 16) ws n.0 n.1 l)
+    subst (NextFits ws) h.1 ((fit.0, small, fit.2), λ l. number_lined (greatest 24) ws n.0 n.1 l)
 
 handle_option : (o : Options) (ws : List Word) (r : Options × List Word) → OptionsFit o → handle_at o ws ≡ Some r → NextFits ws r
 unfolding handle_at
@@ -446,7 +446,7 @@ option_fits o (w ∷ ws) r fit e =
     one_of (bytes_eq w (codes "flags")) _ _ r e (λ b e. option_named w (codes "flags") ws r refl (flags_option o ws r fit e) b) (λ e.
     one_of (bytes_eq w (codes "handle")) _ _ r e (λ b e. option_named w (codes "handle") ws r refl (handle_option o ws r fit e) b) (λ (none : None ≡ Some r). absurd cc)))))
 
-options_fit : (most : ℕ) (o : Options) (ws : List Word) (r : Options) → OptionsFit o → options_at most o ws ≡ Some r → OptionsFit r × Lined ws
+pub options_fit : (most : ℕ) (o : Options) (ws : List Word) (r : Options) → OptionsFit o → options_at most o ws ≡ Some r → OptionsFit r × Lined ws
 unfolding options_at
 options_fit zero o [] r fit e = (subst OptionsFit (same_Some o r e) fit, tt)
 options_fit (suc most) o [] r fit e = (subst OptionsFit (same_Some o r e) fit, tt)
@@ -458,9 +458,9 @@ options_fit (suc most) o (w ∷ ws) r fit e =
     let rest = options_fit most next.0.0 next.0.1 r fits.0 next.2 in
     (rest.0, after_lined (codes ",") (w ∷ ws) later.0 refl later.1 (fits.1 rest.1))
 
-flags_small : (carried : ℕ) (check : Bool) → carried < 2 ^ 16 → flags_with carried check < 2 ^ 16
-flags_small carried true lt = or_of_16 (bit_or required_flags carried) check_mask (or_of_16 required_flags carried (omega arith) lt) (omega arith)
-flags_small carried false lt = or_of_16 (bit_or required_flags carried) 0 (or_of_16 required_flags carried (omega arith) lt) (omega arith)
+pub flags_small : (carried : ℕ) (check : Bool) → carried < 2 ^ 24 → flags_with carried check < 2 ^ 24
+flags_small carried true lt = or_lt 24 (bit_or required_flags carried) check_mask (or_lt 24 required_flags carried (omega arith) lt) (omega arith)
+flags_small carried false lt = or_lt 24 (bit_or required_flags carried) 0 (or_lt 24 required_flags carried (omega arith) lt) (omega arith)
 
 -- ---- a line
 

@@ -14,7 +14,6 @@ use Rattle.dsa_descriptor.specs.declared.fault.FieldFault.TheVariants.{Opcode, F
 use Rattle.dsa_descriptor.specs.declared.op.Op.{Op}
 use Rattle.dsa_descriptor.specs.declared.op.Op.TheVariants.{Move, Fill, Compare, ComparePattern, ApplyDelta, Dualcast}
 use Rattle.dsa_descriptor.specs.Descriptors.{fields}
-use Rattle.dsa_descriptor.specs.Fields.{Fields}
 use Rattle.dsa_descriptor.specs.Faults.{IsFirstFault, Keeps}
 use Rattle.dsa_descriptor.specs.Lists.{entries}
 use Rattle.dsa_descriptor.specs.Spelling.{spelling}
@@ -23,11 +22,15 @@ use Rattle.dsa_descriptor.proofs.Listed.{code_told, fault_only}
 use Rattle.dsa_descriptor.proofs.Same.{one_spelling, same_descriptor}
 use Rattle.dsa_emission.specs.declared.emission_fault.EmissionFault.TheVariants.{PortalLength}
 use Rattle.dsa_emission.specs.EmissionFaults.{is_batch_entry}
+use Rattle.dsa_operations.specs.declared.checksum_op.ChecksumOp.{ChecksumOp}
+use Rattle.dsa_operations.specs.declared.checksum_op.ChecksumOp.TheVariants.{Crc, CopyCrc}
+use Rattle.dsa_operations.specs.OperationFields.{OperationFields}
+use Rattle.dsa_operations.specs.OperationFields.OperationFields.{OfDescriptor, OfChecksum}
 use Rattle.dsa_lines.specs.declared.fault.EmittedFault.{EmittedFault}
 use Rattle.dsa_lines.specs.declared.fault.EmittedFault.TheVariants.{Memory}
 use Rattle.dsa_lines.specs.Words.{Word, words_of}
 use Rattle.dsa_lines.specs.Numbers.{hex, number_of}
-use Rattle.dsa_lines.specs.Text.{op_words, spaced, text_of, line_text}
+use Rattle.dsa_lines.specs.Text.{op_words, checksum_words, spaced, text_of, line_text}
 use Rattle.dsa_lines.specs.Grammar.{fields_of}
 use Rattle.dsa_lines.specs.Portals.{Submission, Submits, IsOther, IsPortal, batch_words, other_words, submission_text, portal_text, why, IsFirstPortalFault}
 use Rattle.dsa_lines.specs.Portals.Submission.{Batch, Lone, Other}
@@ -158,12 +161,20 @@ op_begins (ComparePattern src pattern expected) size more = (λ e. (let no : ◌
 op_begins (ApplyDelta delta dst record_size) size more = (λ e. (let no : ◌≡◌ {A = ℕ} 100 98 = e in absurd (omega arith)), λ e. (let no : ◌≡◌ {A = ℕ} 100 35 = e in absurd (omega arith)), λ e. (let no : ◌≡◌ {A = ℕ} 116 99 = e in absurd (omega arith)))
 op_begins (Dualcast src dst dst2) size more = (λ e. (let no : ◌≡◌ {A = ℕ} 100 98 = e in absurd (omega arith)), λ e. (let no : ◌≡◌ {A = ℕ} 100 35 = e in absurd (omega arith)), λ e. (let no : ◌≡◌ {A = ℕ} 108 99 = e in absurd (omega arith)))
 
-pub line_begins : (f : Fields) →
+-- nor has that of a checksum
+checksum_begins : (op : ChecksumOp) (size : ℕ) (more : List Word) →
+    (get_or (text_of (checksum_words op size ++ more)) 0 0 ≡ 98 → ⊥) × (get_or (text_of (checksum_words op size ++ more)) 0 35 ≡ 35 → ⊥)
+    × (get_or (text_of (checksum_words op size ++ more)) 3 0 ≡ 99 → ⊥)
+checksum_begins (Crc src seed) size more = (λ e. (let no : ◌≡◌ {A = ℕ} 99 98 = e in absurd (omega arith)), λ e. (let no : ◌≡◌ {A = ℕ} 99 35 = e in absurd (omega arith)), λ e. (let no : ◌≡◌ {A = ℕ} 32 99 = e in absurd (omega arith)))
+checksum_begins (CopyCrc src dst seed) size more = (λ e. (let no : ◌≡◌ {A = ℕ} 99 98 = e in absurd (omega arith)), λ e. (let no : ◌≡◌ {A = ℕ} 99 35 = e in absurd (omega arith)), λ e. (let no : ◌≡◌ {A = ℕ} 121 99 = e in absurd (omega arith)))
+
+pub line_begins : (f : OperationFields) →
     (get_or (line_text f) 0 0 ≡ 98 → ⊥) × (get_or (line_text f) 0 35 ≡ 35 → ⊥) × (get_or (line_text f) 3 0 ≡ 99 → ⊥)
 unfolding line_text
-line_begins f = op_begins f.op f.size _
+line_begins (OfDescriptor f) = op_begins f.op f.size _
+line_begins (OfChecksum f) = checksum_begins f.op f.size _
 
-pub same_line : (d e : Descriptor) → line_text (fields d) ≡ line_text (fields e) → d ≡ e
+pub same_line : (d e : Descriptor) → line_text (OfDescriptor (fields d)) ≡ line_text (OfDescriptor (fields e)) → d ≡ e
 same_line d e same =
     same_descriptor d e (same_Some (fields d) (fields e)
     (sym (line_spells (fields d) d.listed) ∙ ap (λ (t : List ℕ). fields_of (words_of t)) same ∙ line_spells (fields e) e.listed))
@@ -174,7 +185,7 @@ other_line bytes fault long are = words_line (other_words bytes fault) (other_wo
 pub submission_line : (bytes : List ℕ) (s : Submission) → Submits bytes s → is_line (submission_text s) ≡ true
 submission_line bytes (Batch c l r) p =
     words_line (batch_words c l r) (batch_words_are c l r (omega (arith, p.count_fits)) p.list_fits p.record_fits)
-submission_line bytes (Lone d) p = canonical_is_line (fields d) d.listed
+submission_line bytes (Lone d) p = canonical_is_line (OfDescriptor (fields d)) d.listed
 submission_line bytes (Other b f) p = other_line b f p.1.whole p.1.are_bytes
 
 -- no canonical line begins as that of other bytes does
@@ -186,9 +197,14 @@ op_known (ComparePattern src pattern expected) size more = λ e. (let no : ◌�
 op_known (ApplyDelta delta dst record_size) size more = λ e. (let no : ◌≡◌ {A = ℕ} 100 117 = e in absurd (omega arith))
 op_known (Dualcast src dst dst2) size more = λ e. (let no : ◌≡◌ {A = ℕ} 100 117 = e in absurd (omega arith))
 
-pub no_unknown : (f : Fields) → get_or (line_text f) 0 0 ≡ 117 → ⊥
+checksum_known : (op : ChecksumOp) (size : ℕ) (more : List Word) → get_or (text_of (checksum_words op size ++ more)) 0 0 ≡ 117 → ⊥
+checksum_known (Crc src seed) size more = λ e. (let no : ◌≡◌ {A = ℕ} 99 117 = e in absurd (omega arith))
+checksum_known (CopyCrc src dst seed) size more = λ e. (let no : ◌≡◌ {A = ℕ} 99 117 = e in absurd (omega arith))
+
+pub no_unknown : (f : OperationFields) → get_or (line_text f) 0 0 ≡ 117 → ⊥
 unfolding line_text
-no_unknown f = op_known f.op f.size _
+no_unknown (OfDescriptor f) = op_known f.op f.size _
+no_unknown (OfChecksum f) = checksum_known f.op f.size _
 
 other_begins : (b : List ℕ) (fault : FieldFault) (t : List ℕ) → text_of (other_words b fault) ≡ t → get_or t 0 0 ≡ 117
 other_begins b fault t e = ap (λ (x : List ℕ). get_or x 0 0) (sym e)
@@ -212,15 +228,15 @@ same_submission bytes other (Batch c l r) (Batch c' l' r') p q e =
     let b : l ≡ l' = same_Some l l' (sym (hex_again l p.list_fits) ∙ ap (λ (ws : List Word). number_of (get_or ws 4 [])) words ∙ hex_again l' q.list_fits) in
     let d : r ≡ r' = same_Some r r' (sym (hex_again r p.record_fits) ∙ ap (λ (ws : List Word). number_of (get_or ws 7 [])) words ∙ hex_again r' q.record_fits) in
     λ i. Batch (a i) (b i) (d i)
-same_submission bytes other (Batch c l r) (Lone d) p q e = absurd ((line_begins (fields d)).0 (batch_begins c l r (line_text (fields d)) e))
-same_submission bytes other (Lone d) (Batch c l r) p q e = absurd ((line_begins (fields d)).0 (batch_begins c l r (line_text (fields d)) (sym e)))
+same_submission bytes other (Batch c l r) (Lone d) p q e = absurd ((line_begins (OfDescriptor (fields d))).0 (batch_begins c l r (line_text (OfDescriptor (fields d))) e))
+same_submission bytes other (Lone d) (Batch c l r) p q e = absurd ((line_begins (OfDescriptor (fields d))).0 (batch_begins c l r (line_text (OfDescriptor (fields d))) (sym e)))
 same_submission bytes other (Lone d) (Lone f) p q e = ap Lone (same_line d f e)
 same_submission bytes other (Batch c l r) (Other b f) p q e =
     let no : ◌≡◌ {A = ℕ} 98 117 = ap (λ (t : List ℕ). get_or t 0 0) e in absurd (omega arith)
 same_submission bytes other (Other b f) (Batch c l r) p q e =
     let no : ◌≡◌ {A = ℕ} 117 98 = ap (λ (t : List ℕ). get_or t 0 0) e in absurd (omega arith)
-same_submission bytes other (Lone d) (Other b f) p q e = absurd (no_unknown (fields d) (other_begins b f (line_text (fields d)) (sym e)))
-same_submission bytes other (Other b f) (Lone d) p q e = absurd (no_unknown (fields d) (other_begins b f (line_text (fields d)) e))
+same_submission bytes other (Lone d) (Other b f) p q e = absurd (no_unknown (OfDescriptor (fields d)) (other_begins b f (line_text (OfDescriptor (fields d))) (sym e)))
+same_submission bytes other (Other b f) (Lone d) p q e = absurd (no_unknown (OfDescriptor (fields d)) (other_begins b f (line_text (OfDescriptor (fields d))) e))
 same_submission bytes other (Other b f) (Other c g) p q e =
     same_other b c f g (same_other_bytes b c f g p.1.whole q.1.whole p.1.are_bytes q.1.are_bytes e) p.1 q.1
 

@@ -11,6 +11,7 @@ use Rattle.dsa_descriptor.specs.Descriptors.{fields}
 use Rattle.dsa_descriptor.specs.Fields.{Fields}
 use Rattle.dsa_descriptor.specs.Lists.{entries}
 use Rattle.dsa_descriptor.specs.Profile.{IsListed}
+use Rattle.dsa_operations.specs.OperationFields.OperationFields.{OfDescriptor}
 use Rattle.dsa_lines.specs.Words.{Word, goes_on, words_in, words_of}
 use Rattle.dsa_lines.specs.Numbers.{hex}
 use Rattle.dsa_lines.specs.Grammar.{greatest, fields_of}
@@ -63,7 +64,7 @@ batch_none c l r a b d = rw (batch_again c l r a b d) refl
 submission_read : (bytes : List ℕ) (s : Submission) → Submits bytes s → IsKnown s → line_fields (words_of (submission_text s)) ≡ Some (lone_fields (s ∷ []))
 submission_read bytes (Batch c l r) p known =
     ap line_fields (batch_read c l r (omega (arith, p.count_fits)) p.list_fits p.record_fits) ∙ batch_none c l r p.count_fits p.list_fits p.record_fits
-submission_read bytes (Lone d) p known = spelt_line (words_of (line_text (fields d))) (fields d) (line_spells (fields d) d.listed)
+submission_read bytes (Lone d) p known = spelt_line (words_of (line_text (OfDescriptor (fields d)))) (fields d) (line_spells (fields d) d.listed)
 submission_read bytes (Other b f) p known = absurd known
 
 lone_more : (s : Submission) (ss : List Submission) → lone_fields (s ∷ []) ++ lone_fields ss ≡ lone_fields (s ∷ ss)
@@ -92,9 +93,9 @@ fence_read : (words : List Word) (f : Fields) → fields_of words ≡ Some f →
 unfolding line_fields
 fence_read words f e = rw e refl
 
-piece_read : (fence : Bool) (d : Descriptor) → line_fields (words_of (cond fence (codes "fence ") [] ++ line_text (fields d))) ≡ Some (fields d ∷ [])
-piece_read true d = ap line_fields (fence_front (line_text (fields d))) ∙ fence_read (words_of (line_text (fields d))) (fields d) (line_spells (fields d) d.listed)
-piece_read false d = spelt_line (words_of (line_text (fields d))) (fields d) (line_spells (fields d) d.listed)
+piece_read : (fence : Bool) (d : Descriptor) → line_fields (words_of (cond fence (codes "fence ") [] ++ line_text (OfDescriptor (fields d)))) ≡ Some (fields d ∷ [])
+piece_read true d = ap line_fields (fence_front (line_text (OfDescriptor (fields d)))) ∙ fence_read (words_of (line_text (OfDescriptor (fields d)))) (fields d) (line_spells (fields d) d.listed)
+piece_read false d = spelt_line (words_of (line_text (OfDescriptor (fields d)))) (fields d) (line_spells (fields d) d.listed)
 
 pieces_read : (ps : List StagedPiece) (rest : List ℕ) → all_fields (lines_of rest) ≡ Some [] → all_fields (lines_of (entries_text (map Piece ps) ++ rest)) ≡ Some (map (λ p. fields p.piece) ps)
 unfolding entries_text
@@ -164,8 +165,8 @@ pub comment_after : (line text : List ℕ) → is_line text ≡ true → words_o
 comment_after line text e = comment_after_in false line text (comment text e)
 
 -- a canonical line with a comment after it spells its fields
-pub commented_read : (f : Fields) (text : List ℕ) → IsListed f → is_line text ≡ true → line_fields (words_of (line_text f ++ (32 ∷ 35 ∷ text))) ≡ Some (f ∷ [])
-commented_read f text listed e = ap line_fields (comment_after (line_text f) text e) ∙ spelt_line (words_of (line_text f)) f (line_spells f listed)
+pub commented_read : (f : Fields) (text : List ℕ) → IsListed f → is_line text ≡ true → line_fields (words_of (line_text (OfDescriptor f) ++ (32 ∷ 35 ∷ text))) ≡ Some (f ∷ [])
+commented_read f text listed e = ap line_fields (comment_after (line_text (OfDescriptor f)) text e) ∙ spelt_line (words_of (line_text (OfDescriptor f))) f (line_spells f listed)
 
 -- ---- the lines of records
 

@@ -12,6 +12,7 @@ use Rattle.dsa_descriptor.specs.Spelling.{spelling}
 use Rattle.dsa_descriptor.proofs.Masks.{no_fence}
 use Rattle.dsa_descriptor.specs.Fences.{with_fence}
 use Rattle.dsa_descriptor.proofs.Fenced.{or_one, unfenced_same}
+use Rattle.dsa_operations.specs.OperationFields.OperationFields.{OfDescriptor}
 use Rattle.dsa_lines.specs.declared.recording.Recorded.{Recorded}
 use Rattle.dsa_lines.specs.declared.recording.Recorded.TheVariants.{Batch as BatchSaid, Entry as EntrySaid}
 use Rattle.dsa_lines.specs.Words.{Word, words_in, words_of}
@@ -75,7 +76,7 @@ comment_said text e = rw (comment text e) refl
 submission_said : (bytes : List ℕ) (s : Submission) → Submits bytes s → IsKnown s → line_recorded (words_of (submission_text s)) ≡ Some (said_by (s ∷ []))
 submission_said bytes (Batch c l r) p known =
     ap line_recorded (batch_read c l r (omega (arith, p.count_fits)) p.list_fits p.record_fits) ∙ batch_said c l r p.count_fits p.list_fits p.record_fits
-submission_said bytes (Lone d) p known = entry_said (words_of (line_text (fields d))) (fields d) (line_spells (fields d) d.listed)
+submission_said bytes (Lone d) p known = entry_said (words_of (line_text (OfDescriptor (fields d)))) (fields d) (line_spells (fields d) d.listed)
 submission_said bytes (Other b f) p known = absurd known
 
 said_more : (s : Submission) (ss : List Submission) → said_by (s ∷ []) ++ said_by ss ≡ said_by (s ∷ ss)
@@ -104,12 +105,12 @@ abbrev entries_said : List StagedPiece → List Recorded
 entries_said ps = map (λ p. EntrySaid (staged_bytes p)) ps
 
 piece_said : (fence : Bool) (d : Descriptor)
-    → line_recorded (words_of (cond fence (codes "fence ") [] ++ line_text (fields d))) ≡ Some (EntrySaid (spelling (with_fence fence (fields d))) ∷ [])
+    → line_recorded (words_of (cond fence (codes "fence ") [] ++ line_text (OfDescriptor (fields d)))) ≡ Some (EntrySaid (spelling (with_fence fence (fields d))) ∷ [])
 piece_said true d =
-    ap line_recorded (fence_front (line_text (fields d))) ∙ fence_said (words_of (line_text (fields d))) (fields d) (line_spells (fields d) d.listed)
+    ap line_recorded (fence_front (line_text (OfDescriptor (fields d)))) ∙ fence_said (words_of (line_text (OfDescriptor (fields d)))) (fields d) (line_spells (fields d) d.listed)
     ∙ ap (λ (b : List ℕ). Some (EntrySaid b ∷ [])) (fence_added (fields d) d.listed)
 piece_said false d =
-    entry_said (words_of (line_text (fields d))) (fields d) (line_spells (fields d) d.listed)
+    entry_said (words_of (line_text (OfDescriptor (fields d)))) (fields d) (line_spells (fields d) d.listed)
     ∙ ap (λ (b : List ℕ). Some (EntrySaid b ∷ [])) (sym (unfenced_same (fields d)))
 
 pieces_said : (ps : List StagedPiece) (rest : List ℕ) → all_recorded (lines_of rest) ≡ Some [] → all_recorded (lines_of (entries_text (map Piece ps) ++ rest)) ≡ Some (entries_said ps)

@@ -7,12 +7,20 @@ use Rattle.dsa_descriptor.specs.declared.op.Op.{Op}
 use Rattle.dsa_descriptor.specs.declared.op.Op.TheVariants.{Move, Fill, Compare, ComparePattern, ApplyDelta, Dualcast}
 use Rattle.dsa_descriptor.specs.Fields.{Fields}
 use Rattle.dsa_descriptor.specs.Profile.{FieldsFit, HasExpectedBit, IsListed}
+use Rattle.dsa_operations.specs.declared.checksum_op.ChecksumOp.{ChecksumOp}
+use Rattle.dsa_operations.specs.declared.checksum_op.ChecksumOp.TheVariants.{Crc, CopyCrc}
+use Rattle.dsa_operations.specs.declared.checksum_op.Seed.{Seed}
+use Rattle.dsa_operations.specs.declared.checksum_op.Seed.TheVariants.{Given, At}
+use Rattle.dsa_operations.specs.OperationFields.{OperationFields, AreListedFields}
+use Rattle.dsa_operations.specs.OperationFields.OperationFields.{OfDescriptor, OfChecksum}
+use Rattle.dsa_operations.specs.Profile.{SeedFits}
+use Rattle.dsa_operations.specs.Profile as checksums
 use Rattle.dsa_lines.specs.declared.options.Options.{Options}
 use Rattle.dsa_lines.specs.Words.{Word, words_of}
 use Rattle.dsa_lines.specs.Numbers.{hex, pattern_word}
 use Rattle.dsa_lines.specs.Options.{no_options, or_zero, fields_with, flags_with, carried_mask, carried_flags, checks_result}
 use Rattle.dsa_lines.specs.Grammar.{greatest, after, number_at, count_at, pattern_at, size_at, move_at, fill_at, expected_at, compare_region_at, compare_pattern_at, compare_at, delta_at, dualcast_at, op_at, pasid_at, privileged_at, check_at, flags_at, handle_at, option_at, options_at, fields_of, Spells}
-use Rattle.dsa_lines.specs.Text.{op_words, number_option, name_option, option_words, line_words, tail_text, text_of, line_text, spaced}
+use Rattle.dsa_lines.specs.Text.{op_words, checksum_words, seed_words, operation_words, number_option, name_option, option_words, later_words, fields_later, line_words, tail_text, text_of, line_text, spaced}
 use Rattle.dsa_lines.proofs.WordLemmas.{AreWords, is_word, text_words}
 use Rattle.dsa_lines.proofs.NumberLemmas.{hex_word, decimal_word, hex_again, decimal_again, size_again, spaced_decimal, pattern_is_word, pattern_again, spaced_pattern}
 use Rattle.dsa_lines.proofs.FlagLemmas.{flags_again, carried_again, carried_fit}
@@ -137,10 +145,10 @@ check_step : (t : ℕ) (n : Option ℕ) (p : Bool) (f h : Option ℕ) (ws : List
 unfolding options_at option_at check_at
 check_step t n p f h ws = refl
 
-flags_step : (t n : ℕ) (m : Option ℕ) (p k : Bool) (h : Option ℕ) (ws : List Word) → n < 2 ^ 16 → bit_and n carried_mask ≡ n
+flags_step : (t n : ℕ) (m : Option ℕ) (p k : Bool) (h : Option ℕ) (ws : List Word) → n < 2 ^ 24 → bit_and n carried_mask ≡ n
     → options_at (suc t) (opts m p k None h) (codes "," ∷ codes "flags" ∷ decimal n ∷ ws) ≡ options_at t (opts m p k (Some n) h) ws
 unfolding options_at option_at flags_at
-flags_step t n m p k h ws lt e = rw (decimal_at n (greatest 16) ws (omega arith) (omega arith), eq-eqb (bit_and n carried_mask) n e) refl
+flags_step t n m p k h ws lt e = rw (decimal_at n (greatest 24) ws (omega arith) (omega arith), eq-eqb (bit_and n carried_mask) n e) refl
 
 handle_step : (t n : ℕ) (m : Option ℕ) (p k : Bool) (f : Option ℕ) (ws : List Word) → n < 2 ^ 16
     → options_at (suc t) (opts m p k f None) (codes "," ∷ codes "handle" ∷ decimal n ∷ ws) ≡ options_at t (opts m p k f (Some n)) ws
@@ -157,14 +165,14 @@ handle_read : (b : Bool) (t n : ℕ) (m : Option ℕ) (p k : Bool) (f : Option �
 handle_read true t n m p k f e lt = rw e (over (suc t) (opts m p k f None))
 handle_read false t n m p k f e lt = rw e (handle_step t n m p k f [] lt ∙ over t (opts m p k f (Some n)))
 
-flags_read : (b : Bool) (t n h : ℕ) (m : Option ℕ) (p k : Bool) → (n == 0) ≡ b → n < 2 ^ 16 → bit_and n carried_mask ≡ n → h < 2 ^ 16
+flags_read : (b : Bool) (t n h : ℕ) (m : Option ℕ) (p k : Bool) → (n == 0) ≡ b → n < 2 ^ 24 → bit_and n carried_mask ≡ n → h < 2 ^ 16
     → options_at (suc (suc t)) (opts m p k None None) (number_option (codes "flags") n ++ number_option (codes "handle") h)
     ≡ Some (opts m p k (some_number n) (some_number h))
 flags_read true t n h m p k e lt same lth = rw e (handle_read (h == 0) (suc t) h m p k None refl lth)
 flags_read false t n h m p k e lt same lth =
     rw e (flags_step (suc t) n m p k None (number_option (codes "handle") h) lt same ∙ handle_read (h == 0) t h m p k (Some n) refl lth)
 
-check_read : (c : Bool) (t n h : ℕ) (m : Option ℕ) (p : Bool) → n < 2 ^ 16 → bit_and n carried_mask ≡ n → h < 2 ^ 16
+check_read : (c : Bool) (t n h : ℕ) (m : Option ℕ) (p : Bool) → n < 2 ^ 24 → bit_and n carried_mask ≡ n → h < 2 ^ 16
     → options_at (suc (suc (suc t))) (opts m p false None None)
     (name_option (codes "check") c ++ (number_option (codes "flags") n ++ number_option (codes "handle") h))
     ≡ Some (opts m p c (some_number n) (some_number h))
@@ -173,7 +181,7 @@ check_read true t n h m p lt same lth =
     ∙ flags_read (n == 0) t n h m p true refl lt same lth
 check_read false t n h m p lt same lth = flags_read (n == 0) (suc t) n h m p false refl lt same lth
 
-privileged_read : (q c : Bool) (t n h : ℕ) (m : Option ℕ) → n < 2 ^ 16 → bit_and n carried_mask ≡ n → h < 2 ^ 16
+privileged_read : (q c : Bool) (t n h : ℕ) (m : Option ℕ) → n < 2 ^ 24 → bit_and n carried_mask ≡ n → h < 2 ^ 16
     → options_at (suc (suc (suc (suc t)))) (opts m false false None None)
     (name_option (codes "privileged") q ++ (name_option (codes "check") c ++ (number_option (codes "flags") n ++ number_option (codes "handle") h)))
     ≡ Some (opts m q c (some_number n) (some_number h))
@@ -185,7 +193,7 @@ privileged_read false c t n h m lt same lth = check_read c (suc t) n h m false l
 abbrev after_pasid : Bool → Bool → ℕ → ℕ → List Word
 after_pasid q c n h = name_option (codes "privileged") q ++ (name_option (codes "check") c ++ (number_option (codes "flags") n ++ number_option (codes "handle") h))
 
-pasid_read : (b : Bool) (id : ℕ) (q c : Bool) (n h : ℕ) → (id == 0) ≡ b → id < 2 ^ 20 → n < 2 ^ 16 → bit_and n carried_mask ≡ n → h < 2 ^ 16
+pasid_read : (b : Bool) (id : ℕ) (q c : Bool) (n h : ℕ) → (id == 0) ≡ b → id < 2 ^ 20 → n < 2 ^ 24 → bit_and n carried_mask ≡ n → h < 2 ^ 16
     → options_at (suc (suc (suc (suc (suc zero))))) no_options (number_option (codes "pasid") id ++ after_pasid q c n h)
     ≡ Some (opts (some_number id) q c (some_number n) (some_number h))
 pasid_read true id q c n h e ltid lt same lth = rw e (privileged_read q c (suc zero) n h None lt same lth)
@@ -193,12 +201,11 @@ pasid_read false id q c n h e ltid lt same lth =
     rw e (pasid_step (suc (suc (suc (suc zero)))) id false false None None (after_pasid q c n h) ltid ∙ privileged_read q c zero n h (Some id) lt same lth)
 
 -- the options of the canonical line are read
-options_again : (f : Fields) → IsListed f
-    → options_at 5 no_options (option_words f)
-    ≡ Some (opts (some_number f.pasid) f.privileged (checks_result f.flags) (some_number (carried_flags f.flags)) (some_number f.int_handle))
-options_again f listed =
-    pasid_read (f.pasid == 0) f.pasid f.privileged (checks_result f.flags) (carried_flags f.flags) f.int_handle refl
-    listed.pasid_fits (carried_fit f.flags) (carried_again f.flags) listed.int_handle_fits
+options_again : (pasid : ℕ) (privileged : Bool) (flags int_handle : ℕ) → pasid < 2 ^ 20 → int_handle < 2 ^ 16
+    → options_at 5 no_options (option_words pasid privileged flags int_handle)
+    ≡ Some (opts (some_number pasid) privileged (checks_result flags) (some_number (carried_flags flags)) (some_number int_handle))
+options_again pasid privileged flags int_handle lt lth =
+    pasid_read (pasid == 0) pasid privileged (checks_result flags) (carried_flags flags) int_handle refl lt (carried_fit flags) (carried_again flags) lth
 
 -- ---- the words of the line
 
@@ -214,37 +221,16 @@ are_append : (a b : List Word) → AreWords a → AreWords b → AreWords (a ++ 
 are_append [] b all more = more
 are_append (w ∷ ws) b all more = (all.0, are_append ws b all.1 more)
 
-options_are : (f : Fields) → IsListed f → AreWords (option_words f)
-options_are f listed =
-    let flags : carried_flags f.flags < 2 ^ 16 = carried_fit f.flags in
-    are_append (number_option (codes "pasid") f.pasid) _ (number_are (f.pasid == 0) (codes "pasid") f.pasid refl refl (omega (arith, listed.pasid_fits)))
-    (are_append (name_option (codes "privileged") f.privileged) _ (name_are f.privileged (codes "privileged") refl)
-    (are_append (name_option (codes "check") (checks_result f.flags)) _ (name_are (checks_result f.flags) (codes "check") refl)
-    (are_append (number_option (codes "flags") (carried_flags f.flags)) _ (number_are (carried_flags f.flags == 0) (codes "flags") (carried_flags f.flags) refl refl (omega arith))
-    (number_are (f.int_handle == 0) (codes "handle") f.int_handle refl refl (omega (arith, listed.int_handle_fits))))))
+options_are : (pasid : ℕ) (privileged : Bool) (flags int_handle : ℕ) → pasid < 2 ^ 20 → int_handle < 2 ^ 16 → AreWords (option_words pasid privileged flags int_handle)
+options_are pasid privileged flags int_handle lt lth =
+    let carried : carried_flags flags < 2 ^ 24 = carried_fit flags in
+    are_append (number_option (codes "pasid") pasid) _ (number_are (pasid == 0) (codes "pasid") pasid refl refl (omega arith))
+    (are_append (name_option (codes "privileged") privileged) _ (name_are privileged (codes "privileged") refl)
+    (are_append (name_option (codes "check") (checks_result flags)) _ (name_are (checks_result flags) (codes "check") refl)
+    (are_append (number_option (codes "flags") (carried_flags flags)) _ (number_are (carried_flags flags == 0) (codes "flags") (carried_flags flags) refl refl (omega arith))
+    (number_are (int_handle == 0) (codes "handle") int_handle refl refl (omega arith)))))
 
--- the words of the text of an operation, and of what follows it
-op_text_words : (op : Op) (size : ℕ) (ws : List Word) → FieldsFit op → HasExpectedBit op → size < 2 ^ 32 → AreWords ws
-    → words_of (text_of (op_words op size ++ ws)) ≡ op_words op size ++ ws
-op_text_words (Move src dst) size ws fit bit s all =
-    text_words 109 (111 ∷ 118 ∷ 101 ∷ []) _ refl
-    (hex_word src fit.0, (refl, (hex_word dst fit.1, (refl, (decimal_word size (omega arith), (refl, all))))))
-op_text_words (Fill pattern dst) size ws fit bit s all =
-    text_words 102 (105 ∷ 108 ∷ 108 ∷ []) _ refl
-    (hex_word dst fit.1, (refl, (pattern_is_word pattern, (refl, (decimal_word size (omega arith), (refl, all))))))
-op_text_words (Compare src src2 expected) size ws fit bit s all =
-    text_words 99 (111 ∷ 109 ∷ 112 ∷ 97 ∷ 114 ∷ 101 ∷ []) _ refl
-    (hex_word src fit.0, (refl, (hex_word src2 fit.1, (refl, (decimal_word size (omega arith), (refl, (refl, (refl, (decimal_word expected (omega arith), all)))))))))
-op_text_words (ComparePattern src pattern expected) size ws fit bit s all =
-    text_words 99 (111 ∷ 109 ∷ 112 ∷ 97 ∷ 114 ∷ 101 ∷ []) _ refl
-    (hex_word src fit.0, (refl, (refl, (pattern_is_word pattern, (refl, (decimal_word size (omega arith), (refl, (refl, (refl, (decimal_word expected (omega arith), all))))))))))
-op_text_words (ApplyDelta delta dst record_size) size ws fit bit s all =
-    text_words 100 (101 ∷ 108 ∷ 116 ∷ 97 ∷ []) _ refl
-    (hex_word delta fit.0, (refl, (decimal_word record_size (omega arith), (refl, (refl, (hex_word dst fit.1, (refl, (decimal_word size (omega arith), (refl, all)))))))))
-op_text_words (Dualcast src dst dst2) size ws fit bit s all =
-    text_words 100 (117 ∷ 97 ∷ 108 ∷ 99 ∷ 97 ∷ 115 ∷ 116 ∷ []) _ refl
-    (hex_word src fit.0, (refl, (hex_word dst fit.1, (refl, (hex_word dst2 fit.2, (refl, (decimal_word size (omega arith), (refl, all))))))))
-
+-- each word of an operation is one, and of what follows it
 op_words_are : (op : Op) (size : ℕ) (ws : List Word) → FieldsFit op → HasExpectedBit op → size < 2 ^ 32 → AreWords ws → AreWords (op_words op size ++ ws)
 op_words_are (Move src dst) size ws fit bit s all =
     (refl, (hex_word src fit.0, (refl, (hex_word dst fit.1, (refl, (decimal_word size (omega arith), (refl, all)))))))
@@ -259,12 +245,47 @@ op_words_are (ApplyDelta delta dst record_size) size ws fit bit s all =
 op_words_are (Dualcast src dst dst2) size ws fit bit s all =
     (refl, (hex_word src fit.0, (refl, (hex_word dst fit.1, (refl, (hex_word dst2 fit.2, (refl, (decimal_word size (omega arith), (refl, all)))))))))
 
+-- the words of its text, and of what follows it
+op_text_words : (op : Op) (size : ℕ) (ws : List Word) → FieldsFit op → HasExpectedBit op → size < 2 ^ 32 → AreWords ws
+    → words_of (text_of (op_words op size ++ ws)) ≡ op_words op size ++ ws
+op_text_words (Move src dst) size ws fit bit s all = text_words 109 (codes "ove") _ refl (op_words_are (Move src dst) size ws fit bit s all).1
+op_text_words (Fill pattern dst) size ws fit bit s all = text_words 102 (codes "ill") _ refl (op_words_are (Fill pattern dst) size ws fit bit s all).1
+op_text_words (Compare src src2 expected) size ws fit bit s all =
+    text_words 99 (codes "ompare") _ refl (op_words_are (Compare src src2 expected) size ws fit bit s all).1
+op_text_words (ComparePattern src pattern expected) size ws fit bit s all =
+    text_words 99 (codes "ompare") _ refl (op_words_are (ComparePattern src pattern expected) size ws fit bit s all).1
+op_text_words (ApplyDelta delta dst record_size) size ws fit bit s all =
+    text_words 100 (codes "elta") _ refl (op_words_are (ApplyDelta delta dst record_size) size ws fit bit s all).1
+op_text_words (Dualcast src dst dst2) size ws fit bit s all =
+    text_words 100 (codes "ualcast") _ refl (op_words_are (Dualcast src dst dst2) size ws fit bit s all).1
+
+-- the same of an operation that makes a checksum
+seed_words_are : (seed : Seed) (ws : List Word) → SeedFits seed → AreWords ws → AreWords (seed_words seed ++ ws)
+seed_words_are (Given value) ws fit all = (refl, (hex_word value (omega (arith, fit)), all))
+seed_words_are (At address) ws fit all = (refl, (refl, (hex_word address fit, all)))
+
+checksum_words_are : (op : ChecksumOp) (size : ℕ) (ws : List Word) → checksums.FieldsFit op → size < 2 ^ 32 → AreWords ws → AreWords (checksum_words op size ++ ws)
+checksum_words_are (Crc src seed) size ws fit s all =
+    (refl, (hex_word src fit.0, (refl, (decimal_word size (omega arith), (refl, (refl, seed_words_are seed ws fit.1 all))))))
+checksum_words_are (CopyCrc src dst seed) size ws fit s all =
+    (refl, (hex_word src fit.0, (refl, (hex_word dst fit.1, (refl, (decimal_word size (omega arith), (refl, (refl, seed_words_are seed ws fit.2 all))))))))
+
+checksum_text_words : (op : ChecksumOp) (size : ℕ) (ws : List Word) → checksums.FieldsFit op → size < 2 ^ 32 → AreWords ws
+    → words_of (text_of (checksum_words op size ++ ws)) ≡ checksum_words op size ++ ws
+checksum_text_words (Crc src seed) size ws fit s all = text_words 99 (codes "rc") _ refl (checksum_words_are (Crc src seed) size ws fit s all).1
+checksum_text_words (CopyCrc src dst seed) size ws fit s all =
+    text_words 99 (codes "opy_crc") _ refl (checksum_words_are (CopyCrc src dst seed) size ws fit s all).1
+
 -- what follows the operation
+later_are : (record_at pasid : ℕ) (privileged : Bool) (flags int_handle : ℕ) → record_at < 2 ^ 64 → pasid < 2 ^ 20 → int_handle < 2 ^ 16
+    → AreWords (later_words record_at pasid privileged flags int_handle)
+later_are record_at pasid privileged flags int_handle ltr lt lth = (refl, (refl, (hex_word record_at ltr, options_are pasid privileged flags int_handle lt lth)))
+
 abbrev more_words : Fields → List Word
-more_words f = codes "," ∷ codes "record" ∷ hex f.record_at ∷ option_words f
+more_words f = later_words f.record_at f.pasid f.privileged f.flags f.int_handle
 
 more_are : (f : Fields) → IsListed f → AreWords (more_words f)
-more_are f listed = (refl, (refl, (hex_word f.record_at listed.record_at_fits, options_are f listed)))
+more_are f listed = later_are f.record_at f.pasid f.privileged f.flags f.int_handle listed.record_at_fits listed.pasid_fits listed.int_handle_fits
 
 -- the options give the fields of the line again
 fields_again : (f : Fields) → IsListed f
@@ -282,12 +303,12 @@ unfolding fields_of
 words_spell f listed =
     rw (
       op_again f.op f.size (more_words f) listed.op_fits listed.expected_bit listed.size_fits,
-      hex_at f.record_at (greatest 64) (option_words f) listed.record_at_fits (omega (arith, listed.record_at_fits)),
-      options_again f listed,
+      hex_at f.record_at (greatest 64) (option_words f.pasid f.privileged f.flags f.int_handle) listed.record_at_fits (omega (arith, listed.record_at_fits)),
+      options_again f.pasid f.privileged f.flags f.int_handle listed.pasid_fits listed.int_handle_fits,
     ) (ap Some (fields_again f listed))
 
 -- the canonical line of listed fields spells them
-pub line_spells : (f : Fields) → IsListed f → Spells (line_text f) f
+pub line_spells : (f : Fields) → IsListed f → Spells (line_text (OfDescriptor f)) f
 unfolding line_text
 line_spells f listed =
     ap fields_of (op_text_words f.op f.size (more_words f) listed.op_fits listed.expected_bit listed.size_fits (more_are f listed))
@@ -318,31 +339,39 @@ op_append (ComparePattern src pattern expected) size b = words_append (op_words 
 op_append (ApplyDelta delta dst record_size) size b = words_append (op_words (ApplyDelta delta dst record_size) size) b refl
 op_append (Dualcast src dst dst2) size b = words_append (op_words (Dualcast src dst dst2) size) b refl
 
+checksum_append : (op : ChecksumOp) (size : ℕ) (b : List Word) → text_of (checksum_words op size ++ b) ≡ text_of (checksum_words op size) ++ tail_text b
+checksum_append (Crc src seed) size b = words_append (checksum_words (Crc src seed) size) b refl
+checksum_append (CopyCrc src dst seed) size b = words_append (checksum_words (CopyCrc src dst seed) size) b refl
+
+-- the line is the text of the operation and that of what follows it
+pub line_is : (f : OperationFields) → line_text f ≡ text_of (operation_words f) ++ tail_text (fields_later f)
+unfolding line_text
+line_is (OfDescriptor f) = op_append f.op f.size (fields_later (OfDescriptor f))
+line_is (OfChecksum f) = checksum_append f.op f.size (fields_later (OfChecksum f))
+
 five_tails : (a b c d e : List Word) → tail_text (a ++ (b ++ (c ++ (d ++ e)))) ≡ tail_text a ++ (tail_text b ++ (tail_text c ++ (tail_text d ++ tail_text e)))
 five_tails a b c d e = rw (tail_append a (b ++ (c ++ (d ++ e))), tail_append b (c ++ (d ++ e)), tail_append c (d ++ e), tail_append d e) refl
 
-regroup_line : (t r a b c d e : List ℕ) → t ++ (r ++ (a ++ (b ++ (c ++ (d ++ e))))) ≡ ((((((t ++ r) ++ a) ++ b) ++ c) ++ d) ++ e)
-regroup_line t r a b c d e = simp append_assoc
+regroup_later : (t r a b c d e : List ℕ) → t ++ (r ++ (a ++ (b ++ (c ++ (d ++ e))))) ≡ ((((((t ++ r) ++ a) ++ b) ++ c) ++ d) ++ e)
+regroup_later t r a b c d e = simp append_assoc
 
-pub line_is : (f : Fields)
-    → line_text f ≡ ((((((text_of (op_words f.op f.size) ++ (codes ", record " ++ hex f.record_at))
-    ++ tail_text (number_option (codes "pasid") f.pasid))
-    ++ tail_text (name_option (codes "privileged") f.privileged))
-    ++ tail_text (name_option (codes "check") (checks_result f.flags)))
-    ++ tail_text (number_option (codes "flags") (carried_flags f.flags)))
-    ++ tail_text (number_option (codes "handle") f.int_handle))
-unfolding line_text
-line_is f =
-    let a : List Word = number_option (codes "pasid") f.pasid in
-    let b : List Word = name_option (codes "privileged") f.privileged in
-    let c : List Word = name_option (codes "check") (checks_result f.flags) in
-    let d : List Word = number_option (codes "flags") (carried_flags f.flags) in
-    let e : List Word = number_option (codes "handle") f.int_handle in
-    let t : List ℕ = text_of (op_words f.op f.size) in
-    let r : List ℕ = codes ", record " ++ hex f.record_at in
-    op_append f.op f.size (more_words f)
-    ∙ ap (λ (s : List ℕ). t ++ (r ++ s)) (five_tails a b c d e)
-    ∙ regroup_line t r (tail_text a) (tail_text b) (tail_text c) (tail_text d) (tail_text e)
+-- what follows the operation, one part after another
+pub later_is : (t : List ℕ) (record_at pasid : ℕ) (privileged : Bool) (flags int_handle : ℕ)
+    → t ++ tail_text (later_words record_at pasid privileged flags int_handle) ≡ ((((((t ++ (codes ", record " ++ hex record_at))
+    ++ tail_text (number_option (codes "pasid") pasid))
+    ++ tail_text (name_option (codes "privileged") privileged))
+    ++ tail_text (name_option (codes "check") (checks_result flags)))
+    ++ tail_text (number_option (codes "flags") (carried_flags flags)))
+    ++ tail_text (number_option (codes "handle") int_handle))
+later_is t record_at pasid privileged flags int_handle =
+    let a : List Word = number_option (codes "pasid") pasid in
+    let b : List Word = name_option (codes "privileged") privileged in
+    let c : List Word = name_option (codes "check") (checks_result flags) in
+    let d : List Word = number_option (codes "flags") (carried_flags flags) in
+    let e : List Word = number_option (codes "handle") int_handle in
+    let r : List ℕ = codes ", record " ++ hex record_at in
+    ap (λ (s : List ℕ). t ++ (r ++ s)) (five_tails a b c d e)
+    ∙ regroup_later t r (tail_text a) (tail_text b) (tail_text c) (tail_text d) (tail_text e)
 
 regroup : (p a q b u d t : List ℕ) → (p ++ (a ++ (q ++ (b ++ (u ++ d))))) ++ t ≡ p ++ (a ++ (q ++ (b ++ (u ++ (d ++ t)))))
 regroup p a q b u d t = simp append_assoc
@@ -391,6 +420,30 @@ compare_pattern_is src pattern expected size x s =
     rw (spaced_pattern pattern, spaced_decimal size s, spaced_decimal expected x, append-nil (decimal expected))
     (sym (regroup_pattern (codes "compare ") (hex src) (codes " with pattern ") (pattern_word pattern) (codes ", ") (decimal size) (codes " bytes") (codes ", expect ") (decimal expected)))
 
+regroup_crc : (a h u d v w : List ℕ) → ((a ++ h) ++ (u ++ (d ++ v))) ++ w ≡ a ++ (h ++ (u ++ (d ++ (v ++ w))))
+regroup_crc a h u d v w = simp append_assoc
+
+seed_is : (seed : Seed) → tail_text (codes "," ∷ seed_words seed) ≡ codes ", " ++ text_of (seed_words seed)
+seed_is (Given value) = refl
+seed_is (At address) = refl
+
+pub crc_is : (src size : ℕ) (seed : Seed) → size < 2 ^ 64
+    → text_of (checksum_words (Crc src seed) size)
+    ≡ ((codes "crc " ++ hex src) ++ (codes ", " ++ (decimal size ++ codes " bytes"))) ++ (codes ", " ++ text_of (seed_words seed))
+crc_is src size seed s =
+    rw (spaced_decimal size s, seed_is seed)
+    (sym (regroup_crc (codes "crc ") (hex src) (codes ", ") (decimal size) (codes " bytes") (codes ", " ++ text_of (seed_words seed))))
+
+regroup_copy : (a h b k u d v w : List ℕ) → ((a ++ (h ++ (b ++ k))) ++ (u ++ (d ++ v))) ++ w ≡ a ++ (h ++ (b ++ (k ++ (u ++ (d ++ (v ++ w))))))
+regroup_copy a h b k u d v w = simp append_assoc
+
+pub copy_crc_is : (src dst size : ℕ) (seed : Seed) → size < 2 ^ 64
+    → text_of (checksum_words (CopyCrc src dst seed) size)
+    ≡ ((codes "copy_crc " ++ (hex src ++ (codes " -> " ++ hex dst))) ++ (codes ", " ++ (decimal size ++ codes " bytes"))) ++ (codes ", " ++ text_of (seed_words seed))
+copy_crc_is src dst size seed s =
+    rw (spaced_decimal size s, seed_is seed)
+    (sym (regroup_copy (codes "copy_crc ") (hex src) (codes " -> ") (hex dst) (codes ", ") (decimal size) (codes " bytes") (codes ", " ++ text_of (seed_words seed))))
+
 pub number_is : (name : Word) (n : ℕ) → spaced name ≡ 32 ∷ name → (n == 0) ≡ false → n < 2 ^ 64
     → tail_text (number_option name n) ≡ codes ", " ++ (name ++ (codes " " ++ decimal n))
 number_is name n plain e lt = rw (e, plain, spaced_decimal n lt, append-nil (decimal n)) refl
@@ -426,5 +479,8 @@ too_many o [] some = absurd (some refl)
 too_many o (w ∷ ws) some = refl
 
 -- each word of the canonical line is one
-pub line_words_are : (f : Fields) → IsListed f → AreWords (line_words f)
-line_words_are f listed = op_words_are f.op f.size (more_words f) listed.op_fits listed.expected_bit listed.size_fits (more_are f listed)
+pub line_words_are : (f : OperationFields) → AreListedFields f → AreWords (line_words f)
+line_words_are (OfDescriptor f) listed = op_words_are f.op f.size (more_words f) listed.op_fits listed.expected_bit listed.size_fits (more_are f listed)
+line_words_are (OfChecksum f) listed =
+    checksum_words_are f.op f.size (fields_later (OfChecksum f)) listed.op_fits listed.size_fits
+    (later_are f.record_at f.pasid f.privileged f.flags f.int_handle listed.record_at_fits listed.pasid_fits listed.int_handle_fits)

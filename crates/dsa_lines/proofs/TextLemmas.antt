@@ -12,6 +12,8 @@ use Rattle.dsa_descriptor.specs.Fields.{Fields}
 use Rattle.dsa_descriptor.specs.Profile.{IsListed}
 use Rattle.dsa_descriptor.specs.Lists.{list_spelling}
 use Rattle.dsa_descriptor.specs.Spelling.{spelling}
+use Rattle.dsa_operations.specs.OperationFields.{OperationFields}
+use Rattle.dsa_operations.specs.OperationFields.OperationFields.{OfDescriptor}
 use Rattle.dsa_lines.specs.Words.{Word, words_in, words_of}
 use Rattle.dsa_lines.specs.Grammar.{op_at, fields_of, ◌>>=◌}
 use Rattle.dsa_lines.specs.Text.{line_text}
@@ -85,19 +87,19 @@ unfolding fields_of op_at
 spelt_line [] f e = absurd cc
 spelt_line (w ∷ ws) f e = line_by_word (bytes_eq w (codes "batch")) (bytes_eq w (codes "barrier")) (bytes_eq w (codes "fence")) w ws f refl refl refl e
 
-next_line : (f : Fields) (fs : List Fields) → IsListed f → all_fields (lines_of (list_text fs)) ≡ Some fs
-    → all_fields (lines_of (line_text f ++ (10 ∷ list_text fs))) ≡ Some (f ∷ fs)
+next_line : (f : Fields) (fs : List Fields) → IsListed f → all_fields (lines_of (list_text (map OfDescriptor fs))) ≡ Some fs
+    → all_fields (lines_of (line_text (OfDescriptor f) ++ (10 ∷ list_text (map OfDescriptor fs)))) ≡ Some (f ∷ fs)
 unfolding all_fields
 next_line f fs listed so_far =
-    ap all_fields (line_first (line_text f) (list_text fs) (canonical_is_line f listed))
-    ∙ rw (spelt_line (words_of (line_text f)) f (line_spells f listed), so_far) refl
+    ap all_fields (line_first (line_text (OfDescriptor f)) (list_text (map OfDescriptor fs)) (canonical_is_line (OfDescriptor f) listed))
+    ∙ rw (spelt_line (words_of (line_text (OfDescriptor f))) f (line_spells f listed), so_far) refl
 
 -- the canonical text of listed fields spells them
-pub text_spells : (fs : List Fields) → AllByRecursion IsListed fs → TextSpells (list_text fs) fs
+pub text_spells : (fs : List Fields) → AllByRecursion IsListed fs → TextSpells (list_text (map OfDescriptor fs)) fs
 unfolding list_text lines_of all_fields words_in line_fields
 text_spells [] all = refl
 text_spells (f ∷ fs) all =
-    ap (λ (t : List ℕ). all_fields (lines_of t)) (append_assoc (line_text f) (10 ∷ []) (list_text fs))
+    ap (λ (t : List ℕ). all_fields (lines_of t)) (append_assoc (line_text (OfDescriptor f)) (10 ∷ []) (list_text (map OfDescriptor fs)))
     ∙ next_line f fs all.0 (text_spells fs all.1)
 
 -- ---- for the loops
@@ -156,23 +158,23 @@ leaves_none lines number leaves =
     ∙ ap (λ (o : Option (List Fields)). o >>= λ fs. with_fields fs (all_fields (leaves.line ∷ leaves.after))) leaves.spelled.1
     ∙ ap (with_fields leaves.spelled.0) (no_line leaves.line leaves.after leaves.outside)
 
-text_append : (fs gs : List Fields) → list_text (fs ++ gs) ≡ list_text fs ++ list_text gs
+text_append : (fs gs : List OperationFields) → list_text (fs ++ gs) ≡ list_text fs ++ list_text gs
 unfolding list_text
 text_append [] gs = refl
 text_append (f ∷ fs) gs = rw (text_append fs gs) (sym (append_assoc (text_line f) (list_text fs) (list_text gs)))
 
-one_text : (f : Fields) → list_text (f ∷ []) ≡ text_line f
+one_text : (f : OperationFields) → list_text (f ∷ []) ≡ text_line f
 unfolding list_text
 one_text f = append-nil (text_line f)
 
--- the text of one descriptor more
-pub text_more : (ds : List Descriptor) (i : ℕ) (d : Descriptor) → i < length ds → d ≡ get_or ds i d
-    → list_text (map fields (take (i + 1) ds)) ≡ list_text (map fields (take i ds)) ++ text_line (fields d)
-text_more ds i d lt e =
-    ap (λ (l : List Descriptor). list_text (map fields l)) (take_more ds i d lt)
-    ∙ ap list_text (map-append fields (take i ds) (get_or ds i d ∷ []))
-    ∙ text_append (map fields (take i ds)) (fields (get_or ds i d) ∷ [])
-    ∙ ap (λ (t : List ℕ). list_text (map fields (take i ds)) ++ t) (one_text (fields (get_or ds i d)) ∙ ap (λ (x : Descriptor). text_line (fields x)) (sym e))
+-- the text of one operation more
+pub text_more : {A : Type 0} (of : A → OperationFields) (xs : List A) (i : ℕ) (x : A) → i < length xs → x ≡ get_or xs i x
+    → list_text (map of (take (i + 1) xs)) ≡ list_text (map of (take i xs)) ++ text_line (of x)
+text_more {A} of xs i x lt e =
+    ap (λ (l : List A). list_text (map of l)) (take_more xs i x lt)
+    ∙ ap list_text (map-append of (take i xs) (get_or xs i x ∷ []))
+    ∙ text_append (map of (take i xs)) (of (get_or xs i x) ∷ [])
+    ∙ ap (λ (t : List ℕ). list_text (map of (take i xs)) ++ t) (one_text (of (get_or xs i x)) ∙ ap (λ (y : A). text_line (of y)) (sym e))
 
 pub no_text : list_text [] ≡ []
 unfolding list_text
@@ -215,5 +217,9 @@ pub last_line : (rest line back : List ℕ) (n : ℕ) → n ≡ line_len rest �
     → lines_of rest ≡ line ∷ []
 last_line rest line back n e f g lt = first_line rest line back n e f g ∙ ap (λ (ls : List (List ℕ)). line ∷ ls) (no_lines back lt)
 
-pub text_is_read : (ds : List Descriptor) (text : List ℕ) → text ≡ list_text (map fields ds) → all_fields (lines_of text) ≡ Some (map fields ds)
-text_is_read ds text e = ap (λ (t : List ℕ). all_fields (lines_of t)) e ∙ text_spells (map fields ds) (all_listed ds)
+pub text_is_read : (ds : List Descriptor) (text : List ℕ) → text ≡ list_text (map (λ d. OfDescriptor (fields d)) ds) → all_fields (lines_of text) ≡ Some (map fields ds)
+text_is_read ds text e = ap (λ (t : List ℕ). all_fields (lines_of t)) (e ∙ ap list_text (sym (map_map ds))) ∙ text_spells (map fields ds) (all_listed ds)
+  where
+    map_map : (ds : List Descriptor) → map OfDescriptor (map fields ds) ≡ map (λ d. OfDescriptor (fields d)) ds
+    map_map [] = refl
+    map_map (d ∷ ds) = ap (λ (fs : List OperationFields). OfDescriptor (fields d) ∷ fs) (map_map ds)

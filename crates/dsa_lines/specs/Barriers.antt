@@ -10,6 +10,8 @@ use Rattle.dsa_descriptor.specs.Fences.{after_first, marked_spelling, set_marks}
 use Rattle.dsa_descriptor.specs.Fields.{Fields}
 use Rattle.dsa_descriptor.specs.Lists.{HaveOneOwner}
 use Rattle.dsa_descriptor.specs.Profile.{IsListed}
+use Rattle.dsa_operations.specs.OperationFields.{OperationFields}
+use Rattle.dsa_operations.specs.OperationFields.OperationFields.{OfDescriptor}
 use Rattle.dsa_lines.specs.declared.fault.TextFault.{TextFault}
 use Rattle.dsa_lines.specs.Words.{Word, words_of}
 use Rattle.dsa_lines.specs.Texts.{all_fields, lines_of, text_line, TextSpells}
@@ -61,7 +63,7 @@ abbrev pub barrier_line : Bool → List ℕ
 barrier_line mark = if mark then codes "barrier\n" else []
 
 -- its canonical text
-unfoldable pub marked_text : List Fields → List Bool → List ℕ
+unfoldable pub marked_text : List OperationFields → List Bool → List ℕ
 marked_text [] marks = []
 marked_text (f ∷ fs) marks = barrier_line (slice_index_or marks 0 false) ++ (text_line f ++ marked_text fs (drop 1 marks))
 
@@ -89,7 +91,8 @@ OneMarkEach =
 abbrev pub MarkedTextSpells : Type 0
 MarkedTextSpells =
     (keep : Bool) (fs : List Fields) (marks : List Bool) → AllByRecursion IsListed fs → length marks ≡ length fs →
-    TextSpells (marked_text fs marks) fs × (marks_from keep false (lines_of (marked_text fs marks)) ≡ marks)
+    TextSpells (marked_text (map OfDescriptor fs) marks) fs
+    × (marks_from keep false (lines_of (marked_text (map OfDescriptor fs) marks)) ≡ marks)
 
 -- the bytes of listed fields and their marks are those of no others
 abbrev pub OneMarkedSpelling : Type 0

@@ -160,7 +160,7 @@ check_at o words = if o.check then None else Some (record o { check = true }, wo
 unfoldable pub flags_at : Options → List Word → Option (Options × List Word)
 flags_at o words =
     if is_some o.flags then None else
-    (number_at (greatest 16) words >>= λ n.
+    (number_at (greatest 24) words >>= λ n.
     if bit_and n.0 carried_mask == n.0 then Some (record o { flags = Some n.0 }, n.1) else None)
 
 -- the number after `handle`

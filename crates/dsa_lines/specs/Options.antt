@@ -9,9 +9,10 @@ use Rattle.dsa_lines.specs.declared.options.Options.{Options}
 abbrev pub no_options : Options
 no_options = record { pasid = None; privileged = false; check = false; flags = None; handle = None }
 
--- the flags that are carried and have no name here: 0x0002, 0x0020 and 0x0100 to 0x8000
+-- the flags that are carried and have no name here: 0x0002, 0x0020, 0x0100 to 0x8000, and those of a checksum, 0x020000 and
+-- 0x040000. That its seed is read from memory, 0x010000, the seed says
 abbrev pub carried_mask : ℕ
-carried_mask = 0xff22
+carried_mask = 0x06ff22
 
 -- check result
 abbrev pub check_mask : ℕ

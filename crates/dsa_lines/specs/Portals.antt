@@ -13,6 +13,7 @@ use Rattle.dsa_descriptor.specs.Spelling.{spelling}
 use Rattle.dsa_emission.specs.declared.emission_fault.EmissionFault.{EmissionFault}
 use Rattle.dsa_emission.specs.declared.emission_fault.EmissionFault.TheVariants.{PortalLength}
 use Rattle.dsa_emission.specs.EmissionFaults.{is_batch_entry}
+use Rattle.dsa_operations.specs.OperationFields.OperationFields.{OfDescriptor}
 use Rattle.dsa_lines.specs.declared.fault.EmittedFault.{EmittedFault}
 use Rattle.dsa_lines.specs.declared.fault.EmittedFault.TheVariants.{Emission, Memory}
 use Rattle.dsa_lines.specs.Words.{Word}
@@ -82,7 +83,7 @@ other_words bytes fault =
 -- a line, with no newline
 abbrev pub submission_text : Submission → List ℕ
 submission_text (Batch count list_at record_at) = text_of (batch_words count list_at record_at)
-submission_text (Lone d) = line_text (fields d)
+submission_text (Lone d) = line_text (OfDescriptor (fields d))
 submission_text (Other bytes fault) = text_of (other_words bytes fault)
 
 -- a line for each entry

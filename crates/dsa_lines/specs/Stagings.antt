@@ -13,6 +13,7 @@ use Rattle.dsa_descriptor.specs.Records.{layout}
 use Rattle.dsa_descriptor.specs.Spelling.{spelling}
 use Rattle.dsa_emission.specs.declared.emission_fault.EmissionFault.TheVariants.{StagingLength}
 use Rattle.dsa_descriptor.specs.Fences.{unfenced, with_fence}
+use Rattle.dsa_operations.specs.OperationFields.OperationFields.{OfDescriptor}
 use Rattle.dsa_lines.specs.declared.fault.EmittedFault.{EmittedFault}
 use Rattle.dsa_lines.specs.Words.{Word}
 use Rattle.dsa_lines.specs.Numbers.{hex}
@@ -82,7 +83,7 @@ pub record IsStaging (bytes : List ℕ) (entries : List StagedEntry) (records : 
 
 -- the line of a piece, after `fence` if it is fenced
 abbrev pub piece_text : StagedPiece → List ℕ
-piece_text p = (if p.fence then codes "fence " else []) ++ line_text (fields p.piece)
+piece_text p = (if p.fence then codes "fence " else []) ++ line_text (OfDescriptor (fields p.piece))
 
 -- other bytes have the same line as in a portal
 abbrev pub entry_text : StagedEntry → List ℕ

@@ -2,6 +2,7 @@
 use Rattle.std.specs.Prelude.{◌≡◌, ℕ, suc, ◌==◌, List, [], ◌∷◌, ◌++◌, codes, Option, Some, None, if◌then◌else◌}
 use Rattle.std.specs.Str.{bytes_eq}
 use Rattle.dsa_descriptor.specs.Fields.{Fields}
+use Rattle.dsa_operations.specs.OperationFields.{OperationFields}
 use Rattle.dsa_lines.specs.Words.{Word, words_of}
 use Rattle.dsa_lines.specs.Grammar.{fields_of, ◌>>=◌}
 use Rattle.dsa_lines.specs.Text.{line_text}
@@ -42,11 +43,11 @@ abbrev pub TextSpells : List ℕ → List Fields → Type 0
 TextSpells text fs = all_fields (lines_of text) ≡ Some fs
 
 -- the canonical line and a newline
-abbrev pub text_line : Fields → List ℕ
+abbrev pub text_line : OperationFields → List ℕ
 text_line f = line_text f ++ 10 ∷ []
 
 -- the canonical text
-unfoldable pub list_text : List Fields → List ℕ
+unfoldable pub list_text : List OperationFields → List ℕ
 list_text [] = []
 list_text (f ∷ fs) = text_line f ++ list_text fs
 

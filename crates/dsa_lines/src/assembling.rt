@@ -4,6 +4,7 @@ ghost use Rattle.std.specs.Prelude.{◌≡◌, List, map, MatchResult};
 ghost use Rattle.dsa_descriptor.specs.declared.descriptor.Descriptor.{Descriptor};
 ghost use Rattle.dsa_descriptor.specs.Descriptors.{fields};
 ghost use Rattle.dsa_descriptor.specs.Lists.{list_spelling, HaveOneOwner};
+ghost use Rattle.dsa_operations.specs.OperationFields.OperationFields.{OfDescriptor};
 ghost use Rattle.dsa_lines.specs.declared.fault.TextFault.TheVariants.{Memory};
 ghost use Rattle.dsa_lines.specs.Texts.{lines_of, list_text};
 ghost use Rattle.dsa_lines.specs.Assembled.{Assembles};
@@ -23,7 +24,8 @@ pub fn assemble(alloc: Global, text: &[u8]) -> Result<Vec<u8>, TextFault>
     ensures answer { Assembles (λ bytes. bytes.items) (lines_of text.now) result }
     // The text of a list is read back.
     ensures again { (ds : List Descriptor) →
-        HaveOneOwner (map fields ds) → text.now ≡ list_text (map fields ds) → MatchResult result
+        HaveOneOwner (map fields ds) → text.now ≡ list_text (map (λ d. OfDescriptor (fields d)) ds) →
+        MatchResult result
         (λ bytes. bytes.items ≡ list_spelling (map fields ds)) (λ fault. fault ≡ Memory) }
 {
     let gathered = match gather(alloc, text, false) {

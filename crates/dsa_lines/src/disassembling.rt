@@ -6,29 +6,37 @@ ghost use Rattle.dsa_descriptor.specs.declared.fault.ListFault.{ListFault};
 ghost use Rattle.dsa_descriptor.specs.declared.fault.ListFault.TheVariants.{Memory};
 ghost use Rattle.dsa_descriptor.specs.Descriptors.{fields};
 ghost use Rattle.dsa_descriptor.specs.Lists.{list_spelling, HaveOneOwner, IsFirstListFault};
+ghost use Rattle.dsa_operations.specs.OperationFields.{operation_fields};
+ghost use Rattle.dsa_operations.specs.OperationFields.OperationFields.{OfDescriptor};
 ghost use Rattle.dsa_lines.specs.Texts.{list_text, text_line};
 
 use crate::writing::line_of;
 use dsa_descriptor::{Descriptor, ListFault, read_list};
+use dsa_operations::Operation;
 use std::alloc::{AllocError, Global};
 
-/// Writes the canonical line of a descriptor and a newline.
-pub(crate) fn push_line(alloc: Global, text: &mut String, d: &Descriptor) -> Result<(), AllocError>
+/// Writes the canonical line of an operation and a newline.
+pub(crate) fn push_line(
+    alloc: Global,
+    text: &mut String,
+    operation: &Operation,
+) -> Result<(), AllocError>
     ensures { OnOk result (string_bytes text.new ≡ string_bytes text.old ++
-        text_line (fields d.now)) }
+        text_line (operation_fields operation.now)) }
 {
-    let line = line_of(alloc, d)?;
+    let line = line_of(alloc, operation)?;
     text.push_str(&line)?;
     text.push_str("\n")
 }
 
 /// The canonical lines of descriptors.
 pub fn text_of_list(alloc: Global, list: &[Descriptor]) -> Result<String, AllocError>
-    ensures { IfOk result (λ text. string_bytes text ≡ list_text (map fields list.now)) }
+    ensures { IfOk result (λ text. string_bytes text ≡
+        list_text (map (λ d. OfDescriptor (fields d)) list.now)) }
 {
     let mut text = String::new(alloc);
     for d in list {
-        push_line(alloc, &mut text, d)?;
+        push_line(alloc, &mut text, &Operation::Descriptor(*d))?;
     }
     Ok(text)
 }
@@ -40,10 +48,12 @@ pub fn text_of_list(alloc: Global, list: &[Descriptor]) -> Result<String, AllocE
 pub fn disassemble(alloc: Global, bytes: &[u8]) -> Result<String, ListFault>
     ensures answer { IfOk result (λ text. (ds : List Descriptor) ×
         (bytes.now ≡ list_spelling (map fields ds)) ×
-        HaveOneOwner (map fields ds) × (string_bytes text ≡ list_text (map fields ds))) }
+        HaveOneOwner (map fields ds) ×
+        (string_bytes text ≡ list_text (map (λ d. OfDescriptor (fields d)) ds))) }
     ensures only { (ds : List Descriptor) → bytes.now ≡ list_spelling (map fields ds) →
         HaveOneOwner (map fields ds) → MatchResult result
-        (λ text. string_bytes text ≡ list_text (map fields ds)) (λ fault. fault ≡ Memory) }
+        (λ text. string_bytes text ≡ list_text (map (λ d. OfDescriptor (fields d)) ds))
+        (λ fault. fault ≡ Memory) }
     ensures refused { (fault : ListFault) →
         fault ≢ Memory → IsFirstListFault bytes.now fault → result ≡ Err fault }
 {

@@ -67,7 +67,7 @@ impl Expected {
             Expected::Size => "a number below 2^32",
             Expected::Pasid => "a number below 2^20",
             Expected::Handle => "a number below 2^16",
-            Expected::Flags => "flags of 0x0002, 0x0020 and 0x0100 to 0x8000",
+            Expected::Flags => "flags of 0x0002, 0x0020, 0x0100 to 0x8000, 0x020000 and 0x040000",
             Expected::Bit => "0 or 1",
             Expected::Pattern => "16 hexadecimal digits",
             Expected::Comma => "a comma",

@@ -1,23 +1,24 @@
 //! The canonical text of a list with barriers, and laws of such lists.
 
 ghost use Rattle.std.specs.Prelude.{◌≡◌, ◌++◌, map, string_bytes, IfOk, OnOk};
-ghost use Rattle.dsa_descriptor.specs.Descriptors.{fields};
+ghost use Rattle.dsa_operations.specs.OperationFields.{operation_fields};
 ghost use Rattle.dsa_lines.specs.Texts.{text_line};
 ghost use Rattle.dsa_lines.specs.Barriers.{MarkedTextSpells, OneMarkEach, OneMarkedSpelling, barrier_line, marked_text};
 
 use crate::disassembling::push_line;
-use dsa_descriptor::{Descriptor, mark_at};
+use dsa_descriptor::mark_at;
+use dsa_operations::Operation;
 use std::alloc::{AllocError, Global};
 
 /// Writes the line of an operation, after that of a barrier if it is marked.
 fn push_marked(
     alloc: Global,
     text: &mut String,
-    operation: &Descriptor,
+    operation: &Operation,
     mark: bool,
 ) -> Result<(), AllocError>
     ensures { OnOk result (string_bytes text.new ≡ string_bytes text.old ++
-        (barrier_line mark ++ text_line (fields operation.now))) }
+        (barrier_line mark ++ text_line (operation_fields operation.now))) }
 {
     if mark {
         text.push_str("barrier\n")?;
@@ -28,11 +29,11 @@ fn push_marked(
 /// The canonical lines of operations, with a line `barrier` before each that is marked.
 pub fn text_with_barriers(
     alloc: Global,
-    operations: &[Descriptor],
+    operations: &[Operation],
     marks: &[bool],
 ) -> Result<String, AllocError>
     ensures { IfOk result (λ text. string_bytes text ≡
-        marked_text (map fields operations.now) marks.now) }
+        marked_text (map operation_fields operations.now) marks.now) }
 {
     let mut text = String::new(alloc);
     for index in 0..operations.len() {

@@ -8,6 +8,7 @@ ghost use Rattle.dsa_descriptor.specs.Descriptors.{fields};
 ghost use Rattle.dsa_descriptor.specs.Lists.{list_spelling};
 ghost use Rattle.dsa_descriptor.specs.Profile.{IsListed};
 ghost use Rattle.dsa_descriptor.specs.Spelling.{spelling};
+ghost use Rattle.dsa_operations.specs.OperationFields.OperationFields.{OfDescriptor};
 ghost use Rattle.dsa_lines.specs.Grammar.{Spells};
 ghost use Rattle.dsa_lines.specs.Text.{line_text};
 ghost use Rattle.dsa_lines.specs.Texts.{TextSpells, list_text};
@@ -38,7 +39,7 @@ pub fn one_line_no_newline()
 /// The canonical line of listed fields spells them.
 #[tactic(auto, using(crate::proofs::RoundTrip::line_spells))]
 pub fn canonical_line_spells()
-    ensures { (f : Fields) → IsListed f → Spells (line_text f) f }
+    ensures { (f : Fields) → IsListed f → Spells (line_text (OfDescriptor f)) f }
 {}
 
 /// A text spells one list of fields at most, and texts that spell fields of the same bytes spell the
@@ -63,5 +64,6 @@ pub fn one_text_one_list()
 /// The canonical text of listed fields spells them.
 #[tactic(auto, using(crate::proofs::TextLemmas::text_spells))]
 pub fn canonical_text_spells()
-    ensures { (fs : List Fields) → AllByRecursion IsListed fs → TextSpells (list_text fs) fs }
+    ensures { (fs : List Fields) → AllByRecursion IsListed fs →
+        TextSpells (list_text (map OfDescriptor fs)) fs }
 {}

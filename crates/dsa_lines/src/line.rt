@@ -34,7 +34,7 @@ impl Line {
 
     /// The second four bytes: the flags and the operation code.
     fn operation_word(&self) -> u32
-        requires { self.now.flags < 2 ^ 16 }
+        requires { self.now.flags < 2 ^ 24 }
         ensures { result ≡ operation_word (view self.now) }
     {
         self.flags + (u32::from(self.op.code()) << 24)
@@ -42,13 +42,13 @@ impl Line {
 
     /// The same with the flag fence.
     pub(crate) fn fenced(self) -> Line
-        requires { self.flags < 2 ^ 16 }
+        requires { self.flags < 2 ^ 24 }
         ensures fields { view result ≡ fenced (view self) }
         ensures pasid { result.pasid ≡ self.pasid }
-        ensures flags { result.flags < 2 ^ 16 }
+        ensures flags { result.flags < 2 ^ 24 }
     {
         Line {
-            flags: u32::from(self.flags as u16 | 1),
+            flags: self.flags | 1,
             ..self
         }
     }
@@ -56,7 +56,7 @@ impl Line {
     /// The 64 bytes of the fields.
     pub(crate) fn bytes(&self) -> [u8; 64]
         requires pasid { self.now.pasid < 2 ^ 20 }
-        requires flags { self.now.flags < 2 ^ 16 }
+        requires flags { self.now.flags < 2 ^ 24 }
         ensures { result ≡ spelling (view self.now) }
     {
         let (first, second) = self.op.first_fields();

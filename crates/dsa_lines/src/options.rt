@@ -1,6 +1,6 @@
 //! Reading the options of a line.
 
-ghost use Rattle.std.specs.Prelude.{◌≡◌, ◌<◌, ◌^◌, IfOk};
+ghost use Rattle.std.specs.Prelude.{◌≡◌};
 ghost use Rattle.dsa_lines.specs.Words.{words_of};
 ghost use Rattle.dsa_lines.specs.Options.{flags_with, no_options, or_zero};
 ghost use Rattle.dsa_lines.specs.Grammar.{Gives, pasid_at, privileged_at, check_at, flags_at, handle_at, option_at, options_at};
@@ -9,14 +9,14 @@ use crate::fault::{Expected, Stop};
 use crate::reading::{after, number_at};
 use crate::words::{is_over, next_word};
 
-/// The flags that each listed descriptor has: record address valid, and request record.
-const REQUIRED_FLAGS: u16 = 0x000c;
+/// The flags that each operation of a list has: record address valid, and request record.
+pub(crate) const REQUIRED_FLAGS: u32 = 0x00_000c;
 
 /// The flags that may be carried and have no name.
-const CARRIED_FLAGS: u64 = 0xff22;
+pub(crate) const CARRIED_FLAGS: u32 = 0x06_ff22;
 
 /// The flag check result.
-const CHECK_RESULT: u16 = 0x0080;
+pub(crate) const CHECK_RESULT: u32 = 0x00_0080;
 
 /// The most options that a line may have.
 const MOST_OPTIONS: usize = 5;
@@ -27,7 +27,7 @@ pub(crate) struct Options {
     pub(crate) pasid: Option<u32>,
     pub(crate) privileged: bool,
     pub(crate) check: bool,
-    pub(crate) flags: Option<u16>,
+    pub(crate) flags: Option<u32>,
     pub(crate) handle: Option<u16>,
 }
 
@@ -66,7 +66,7 @@ impl Options {
     }
 
     /// The flags under `flags`, 0 if there are none.
-    fn carried(self) -> u16
+    fn carried(self) -> u32
         ensures { result ≡ or_zero self.flags }
     {
         match self.flags {
@@ -75,29 +75,20 @@ impl Options {
         }
     }
 
-    /// All flags of the descriptor: the required ones, those under `flags`, and check result.
-    fn flag_word(self) -> u16
+    /// The flags that the options give: the required ones, those under `flags`, and check result.
+    pub(crate) fn flag_bits(self) -> u32
         ensures { result ≡ flags_with (or_zero self.flags) self.check }
     {
         let check = if self.check { CHECK_RESULT } else { 0 };
         REQUIRED_FLAGS | self.carried() | check
-    }
-
-    /// The same, as the number of a descriptor.
-    pub(crate) fn flag_bits(self) -> u32
-        ensures value { result ≡ flags_with (or_zero self.flags) self.check }
-        ensures small { result < 2 ^ 16 }
-    {
-        u32::from(self.flag_word())
     }
 }
 
 /// The PASID, after its name; `name` is the text from its name on, where a second PASID is reported.
 #[tactic(auto, unfolding(crate::specs::Grammar::pasid_at))]
 fn pasid_at<'a>(options: Options, name: &[u8], text: &'a [u8]) -> Result<(Options, &'a [u8]), Stop>
-    ensures value { Gives
+    ensures { Gives
         (λ x. (x.0, words_of x.1.now)) result (pasid_at options (words_of text.now)) }
-    ensures small { IfOk result (λ x. or_zero x.0.pasid < 2 ^ 20) }
 {
     if options.pasid.is_some() {
         return Err(Stop::at(name, Expected::Option));
@@ -117,9 +108,8 @@ fn privileged_at<'a>(
     name: &[u8],
     text: &'a [u8],
 ) -> Result<(Options, &'a [u8]), Stop>
-    ensures value { Gives
+    ensures { Gives
         (λ x. (x.0, words_of x.1.now)) result (privileged_at options (words_of text.now)) }
-    ensures same { IfOk result (λ x. x.0.pasid ≡ options.pasid) }
 {
     if options.privileged {
         return Err(Stop::at(name, Expected::Option));
@@ -134,9 +124,8 @@ fn privileged_at<'a>(
 /// Check result, after its name.
 #[tactic(auto, unfolding(crate::specs::Grammar::check_at))]
 fn check_at<'a>(options: Options, name: &[u8], text: &'a [u8]) -> Result<(Options, &'a [u8]), Stop>
-    ensures value { Gives
+    ensures { Gives
         (λ x. (x.0, words_of x.1.now)) result (check_at options (words_of text.now)) }
-    ensures same { IfOk result (λ x. x.0.pasid ≡ options.pasid) }
 {
     if options.check {
         return Err(Stop::at(name, Expected::Option));
@@ -151,19 +140,19 @@ fn check_at<'a>(options: Options, name: &[u8], text: &'a [u8]) -> Result<(Option
 /// The carried flags, after their name.
 #[tactic(auto, unfolding(crate::specs::Grammar::flags_at))]
 fn flags_at<'a>(options: Options, name: &[u8], text: &'a [u8]) -> Result<(Options, &'a [u8]), Stop>
-    ensures value { Gives
+    ensures { Gives
         (λ x. (x.0, words_of x.1.now)) result (flags_at options (words_of text.now)) }
-    ensures same { IfOk result (λ x. x.0.pasid ≡ options.pasid) }
 {
     if options.flags.is_some() {
         return Err(Stop::at(name, Expected::Option));
     }
-    let (flags, rest) = number_at(text, 0xffff, Expected::Flags)?;
+    let (flags, rest) = number_at(text, 0xff_ffff, Expected::Flags)?;
+    let flags = flags as u32;
     if flags & CARRIED_FLAGS != flags {
         return Err(Stop::at(text, Expected::Flags));
     }
     let options = Options {
-        flags: Some(flags as u16),
+        flags: Some(flags),
         ..options
     };
     Ok((options, rest))
@@ -172,9 +161,8 @@ fn flags_at<'a>(options: Options, name: &[u8], text: &'a [u8]) -> Result<(Option
 /// The interrupt handle, after its name.
 #[tactic(auto, unfolding(crate::specs::Grammar::handle_at))]
 fn handle_at<'a>(options: Options, name: &[u8], text: &'a [u8]) -> Result<(Options, &'a [u8]), Stop>
-    ensures value { Gives
+    ensures { Gives
         (λ x. (x.0, words_of x.1.now)) result (handle_at options (words_of text.now)) }
-    ensures same { IfOk result (λ x. x.0.pasid ≡ options.pasid) }
 {
     if options.handle.is_some() {
         return Err(Stop::at(name, Expected::Option));
@@ -190,9 +178,8 @@ fn handle_at<'a>(options: Options, name: &[u8], text: &'a [u8]) -> Result<(Optio
 /// One option more, and what comes after it.
 #[tactic(auto, unfolding(crate::specs::Grammar::option_at))]
 fn option_at(options: Options, text: &[u8]) -> Result<(Options, &[u8]), Stop>
-    ensures value { Gives
+    ensures { Gives
         (λ x. (x.0, words_of x.1.now)) result (option_at options (words_of text.now)) }
-    ensures small { IfOk result (λ x. or_zero options.pasid < 2 ^ 20 → or_zero x.0.pasid < 2 ^ 20) }
 {
     let Some((word, rest)) = next_word(text) else {
         return Err(Stop::at(text, Expected::Option));
@@ -217,8 +204,7 @@ fn option_at(options: Options, text: &[u8]) -> Result<(Options, &[u8]), Stop>
 
 /// The options up to the end of the line, in any order and each at most once.
 pub(crate) fn options_at(text: &[u8]) -> Result<Options, Stop>
-    ensures value { Gives (λ x. x) result (options_at 5 no_options (words_of text.now)) }
-    ensures small { IfOk result (λ options. or_zero options.pasid < 2 ^ 20) }
+    ensures { Gives (λ x. x) result (options_at 5 no_options (words_of text.now)) }
 {
     let mut options = Options::none();
     let mut rest = text;

@@ -12,6 +12,7 @@ use crate::fault::EmittedFault;
 use crate::writing::{line_of, push_record};
 use dsa_descriptor::{Descriptor, FieldFault, u32_at, u64_at};
 use dsa_emission::EmissionFault;
+use dsa_operations::Operation;
 use std::alloc::{AllocError, Global};
 
 /// The operation code of a batch descriptor.
@@ -69,7 +70,7 @@ fn entry_text(alloc: Global, entry: &[u8; 64]) -> Result<String, AllocError>
         return batch_text(alloc, u32_at(entry, 32), list_at, record_at);
     }
     match Descriptor::read(entry) {
-        Ok(d) => line_of(alloc, &d),
+        Ok(d) => line_of(alloc, &Operation::Descriptor(d)),
         Err(fault) => other_text(alloc, entry, fault),
     }
 }

@@ -1,6 +1,7 @@
 //! Reading a line, word by word.
 
 ghost use Rattle.std.specs.Prelude.{◌≡◌, ◌<◌, ◌≤◌, ◌^◌, IfOk, Ok};
+ghost use Rattle.dsa_operations.specs.OperationFields.OperationFields.{OfDescriptor};
 ghost use Rattle.dsa_lines.specs.Words.{words_of};
 ghost use Rattle.dsa_lines.specs.Grammar.{Gives, after, named, number_at, count_at, pattern_at, fields_of, Spells};
 ghost use Rattle.dsa_lines.specs.Views.{view};
@@ -93,7 +94,7 @@ pub(crate) fn pattern_at(text: &[u8]) -> Result<(u64, &[u8]), Stop>
 #[tactic(auto, unfolding(crate::specs::Grammar::fields_of))]
 pub(crate) fn read_line(text: &[u8]) -> Result<Line, Stop>
     ensures gives { Gives view result (fields_of (words_of text.now)) }
-    ensures small { IfOk result (λ line. (line.pasid < 2 ^ 20) × (line.flags < 2 ^ 16)) }
+    ensures small { IfOk result (λ line. (line.pasid < 2 ^ 20) × (line.flags < 2 ^ 24)) }
 {
     let (op, size, rest) = op_at(text)?;
     let rest = named(rest, b"record", Expected::Record)?;
@@ -152,7 +153,7 @@ pub fn parse_line(text: &[u8]) -> Result<Descriptor, LineFault>
     // What the line spells is read.
     ensures only { (d : Descriptor) → Spells text.now (fields d) → result ≡ Ok d }
     // The canonical line is read back.
-    ensures again { (d : Descriptor) → text.now ≡ line_text (fields d) → result ≡ Ok d }
+    ensures again { (d : Descriptor) → text.now ≡ line_text (OfDescriptor (fields d)) → result ≡ Ok d }
 {
     descriptor_of(text)
 }

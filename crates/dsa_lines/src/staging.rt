@@ -12,6 +12,7 @@ use crate::staged_record::push_records;
 use crate::writing::line_of;
 use dsa_descriptor::{Descriptor, is_fenced, unfenced};
 use dsa_emission::EmissionFault;
+use dsa_operations::Operation;
 use std::alloc::{AllocError, Global};
 
 /// Whether all of the bytes are zero.
@@ -33,7 +34,7 @@ fn piece_text(alloc: Global, piece: &Descriptor, fence: bool) -> Result<String, 
     ensures { IfOk result (λ line. string_bytes line ≡
         piece_text (record { fence = fence; piece = piece.now })) }
 {
-    let line = line_of(alloc, piece)?;
+    let line = line_of(alloc, &Operation::Descriptor(*piece))?;
     if fence {
         return format!(in alloc; "fence {line}");
     }

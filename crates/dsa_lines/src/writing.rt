@@ -2,13 +2,17 @@
 
 ghost use Rattle.std.specs.Prelude.{◌≡◌, ◌++◌, ◌∷◌, ℕ, IfOk, OnOk, codes, decimal, string_bytes};
 ghost use Rattle.dsa_descriptor.specs.declared.op.Op.TheVariants.{Move, Fill, Compare, ComparePattern, ApplyDelta, Dualcast};
-ghost use Rattle.dsa_descriptor.specs.Descriptors.{fields};
 ghost use Rattle.dsa_descriptor.specs.Profile.{required_flags};
+ghost use Rattle.dsa_operations.specs.declared.checksum_op.ChecksumOp.TheVariants.{Crc, CopyCrc};
+ghost use Rattle.dsa_operations.specs.OperationFields.{operation_fields};
+ghost use Rattle.dsa_operations.specs.OperationFields.OperationFields.{OfDescriptor};
 ghost use Rattle.dsa_lines.specs.Numbers.{hex, pattern_word};
 ghost use Rattle.dsa_lines.specs.Options.{carried_flags, checks_result};
-ghost use Rattle.dsa_lines.specs.Text.{text_of, tail_text, spaced, op_words, number_option, name_option, line_text};
+ghost use Rattle.dsa_lines.specs.Text.{text_of, tail_text, spaced, op_words, checksum_words, seed_words, operation_words, later_words, fields_later, number_option, name_option, line_text};
 
-use dsa_descriptor::{Descriptor, Op};
+use crate::options::{CARRIED_FLAGS, CHECK_RESULT, REQUIRED_FLAGS};
+use dsa_descriptor::Op;
+use dsa_operations::{ChecksumOp, Operation, Seed};
 use std::alloc::{AllocError, Global};
 
 /// The text of a move.
@@ -192,6 +196,81 @@ pub fn op_text(alloc: Global, op: &Op, size: u32) -> Result<String, AllocError>
     }
 }
 
+/// Writes the seed of a checksum after a comma.
+fn push_seed(alloc: Global, line: &mut String, seed: Seed) -> Result<(), AllocError>
+    ensures { OnOk result (string_bytes line.new ≡ string_bytes line.old ++
+        (codes ", " ++ text_of (seed_words seed))) }
+{
+    let text = match seed {
+        Seed::Given(value) => format!(in alloc; ", seed 0x{value:x}")?,
+        Seed::At(address) => format!(in alloc; ", seed at 0x{address:x}")?,
+    };
+    line.push_str(&text)
+}
+
+/// The text of a CRC generation up to its size.
+fn crc_front(alloc: Global, src: u64) -> Result<String, AllocError>
+    ensures { IfOk result (λ s. string_bytes s ≡ codes "crc " ++ hex src) }
+{
+    format!(in alloc; "crc 0x{src:x}")
+}
+
+/// The text of a CRC generation.
+fn crc_text(alloc: Global, src: u64, seed: Seed, size: u32) -> Result<String, AllocError>
+    ensures { IfOk result (λ s. string_bytes s ≡ text_of (checksum_words (Crc src seed) size)) }
+{
+    let mut line = crc_front(alloc, src)?;
+    push_size(alloc, &mut line, size)?;
+    push_seed(alloc, &mut line, seed)?;
+    Ok(line)
+}
+
+/// The text of a copy with CRC up to its size.
+fn copy_crc_front(alloc: Global, src: u64, dst: u64) -> Result<String, AllocError>
+    ensures { IfOk result (λ s. string_bytes s ≡ codes "copy_crc " ++
+        (hex src ++ (codes " -> " ++ hex dst))) }
+{
+    format!(in alloc; "copy_crc 0x{src:x} -> 0x{dst:x}")
+}
+
+/// The text of a copy with CRC.
+fn copy_crc_text(
+    alloc: Global,
+    src: u64,
+    dst: u64,
+    seed: Seed,
+    size: u32,
+) -> Result<String, AllocError>
+    ensures { IfOk result
+        (λ s. string_bytes s ≡ text_of (checksum_words (CopyCrc src dst seed) size)) }
+{
+    let mut line = copy_crc_front(alloc, src, dst)?;
+    push_size(alloc, &mut line, size)?;
+    push_seed(alloc, &mut line, seed)?;
+    Ok(line)
+}
+
+/// The operation of a checksum, its size and its seed.
+fn checksum_text(alloc: Global, op: &ChecksumOp, size: u32) -> Result<String, AllocError>
+    ensures { IfOk result (λ s. string_bytes s ≡ text_of (checksum_words op.now size)) }
+{
+    match *op {
+        ChecksumOp::Crc { src, seed } => crc_text(alloc, src, seed, size),
+        ChecksumOp::CopyCrc { src, dst, seed } => copy_crc_text(alloc, src, dst, seed, size),
+    }
+}
+
+/// The operation and its size, as its line begins.
+pub fn operation_text(alloc: Global, operation: &Operation) -> Result<String, AllocError>
+    ensures { IfOk result (λ s. string_bytes s ≡
+        text_of (operation_words (operation_fields operation.now))) }
+{
+    match operation {
+        Operation::Descriptor(descriptor) => op_text(alloc, &descriptor.op, descriptor.size),
+        Operation::Checksum(checksum) => checksum_text(alloc, &checksum.op, checksum.size),
+    }
+}
+
 /// Writes the address of the record.
 pub(crate) fn push_record(
     alloc: Global,
@@ -239,6 +318,27 @@ fn push_name(alloc: Global, line: &mut String, name: &str, stands: bool) -> Resu
     line.push_str(&text)
 }
 
+/// Writes the record and the options.
+fn push_later(
+    alloc: Global,
+    line: &mut String,
+    record_at: u64,
+    pasid: u32,
+    privileged: bool,
+    flags: u32,
+    int_handle: u16,
+) -> Result<(), AllocError>
+    ensures { OnOk result (string_bytes line.new ≡ string_bytes line.old ++
+        tail_text (later_words record_at pasid privileged flags int_handle)) }
+{
+    push_record(alloc, line, record_at)?;
+    push_number(alloc, line, "pasid", pasid)?;
+    push_name(alloc, line, "privileged", privileged)?;
+    push_name(alloc, line, "check", flags & CHECK_RESULT != 0)?;
+    push_number(alloc, line, "flags", flags & CARRIED_FLAGS)?;
+    push_number(alloc, line, "handle", u32::from(int_handle))
+}
+
 /// The canonical line of an operation with the flags that a list requires and no interrupt handle, with no newline. The
 /// fields need not be those of a listed descriptor.
 pub fn operation_line(
@@ -249,7 +349,7 @@ pub fn operation_line(
     pasid: u32,
     privileged: bool,
 ) -> Result<String, AllocError>
-    ensures { IfOk result (λ s. string_bytes s ≡ line_text (record {
+    ensures { IfOk result (λ s. string_bytes s ≡ line_text (OfDescriptor (record {
       pasid = pasid;
       privileged = privileged;
       flags = required_flags;
@@ -257,25 +357,46 @@ pub fn operation_line(
       size = size;
       int_handle = 0;
       op = op.now;
-    })) }
+    }))) }
 {
     let mut line = op_text(alloc, op, size)?;
-    push_record(alloc, &mut line, record_at)?;
-    push_number(alloc, &mut line, "pasid", pasid)?;
-    push_name(alloc, &mut line, "privileged", privileged)?;
+    let flags = REQUIRED_FLAGS;
+    push_later(alloc, &mut line, record_at, pasid, privileged, flags, 0)?;
     Ok(line)
 }
 
-/// The canonical line of a descriptor, with no newline.
-pub fn line_of(alloc: Global, d: &Descriptor) -> Result<String, AllocError>
-    ensures { IfOk result (λ s. string_bytes s ≡ line_text (fields d.now)) }
+/// Writes the record and the options of an operation.
+fn push_fields(alloc: Global, line: &mut String, operation: &Operation) -> Result<(), AllocError>
+    ensures { OnOk result (string_bytes line.new ≡ string_bytes line.old ++
+        tail_text (fields_later (operation_fields operation.now))) }
 {
-    let mut line = op_text(alloc, &d.op, d.size)?;
-    push_record(alloc, &mut line, d.record_at)?;
-    push_number(alloc, &mut line, "pasid", d.pasid)?;
-    push_name(alloc, &mut line, "privileged", d.privileged)?;
-    push_name(alloc, &mut line, "check", d.flags.0 & 0x80 != 0)?;
-    push_number(alloc, &mut line, "flags", d.flags.0 & 0xff22)?;
-    push_number(alloc, &mut line, "handle", u32::from(d.int_handle))?;
+    match operation {
+        Operation::Descriptor(d) => push_later(
+            alloc,
+            line,
+            d.record_at,
+            d.pasid,
+            d.privileged,
+            d.flags.0,
+            d.int_handle,
+        ),
+        Operation::Checksum(c) => push_later(
+            alloc,
+            line,
+            c.record_at,
+            c.pasid,
+            c.privileged,
+            c.flags.0,
+            c.int_handle,
+        ),
+    }
+}
+
+/// The canonical line of an operation, with no newline.
+pub fn line_of(alloc: Global, operation: &Operation) -> Result<String, AllocError>
+    ensures { IfOk result (λ s. string_bytes s ≡ line_text (operation_fields operation.now)) }
+{
+    let mut line = operation_text(alloc, operation)?;
+    push_fields(alloc, &mut line, operation)?;
     Ok(line)
 }

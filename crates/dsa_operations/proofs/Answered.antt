@@ -24,8 +24,8 @@ use Rattle.dsa_operations.specs.Places.{checksum_at}
 use Rattle.dsa_operations.specs.Profile.{refused_flags, AreListedFlags}
 use Rattle.dsa_operations.specs.Spelling.{checksum_spelling}
 use Rattle.dsa_operations.proofs.Kept.{rules}
-use Rattle.dsa_operations.proofs.Same.{low_word, one_spelling}
-use Rattle.dsa_operations.proofs.Spelt.{checksum_code, op_there, stands}
+use Rattle.dsa_operations.proofs.Same.{descriptor_fits, low_word, one_spelling}
+use Rattle.dsa_operations.proofs.Spelt.{checksum_code, listed_fits, op_there, stands}
 
 -- ---- what is a first fault
 
@@ -57,17 +57,18 @@ none_named bytes low =
 pub spelling_is_kept : (o : Operation) (f : FieldFault) → OperationKeeps (spelling_of o) f
 unfolding OperationKeeps
 spelling_is_kept (operation.Descriptor d) f =
-    rw (none_named (spelling (fields d)) (low_word d)) (spelling_keeps (fields d) d.listed f)
+    rw (none_named (spelling (fields d)) (low_word (fields d) (descriptor_fits (fields d) d.listed))) (spelling_keeps (fields d) d.listed f)
 spelling_is_kept (operation.Checksum c) f =
-    let s = stands (checksum_fields c) c.listed in
-    rw (op_there (checksum_fields c) (checksum_spelling (checksum_fields c)) c.listed s)
+    let fits = listed_fits (checksum_fields c) c.listed in
+    let s = stands (checksum_fields c) fits in
+    rw (op_there (checksum_fields c) (checksum_spelling (checksum_fields c)) fits s)
     (rules (checksum_fields c) c.listed (checksum_spelling (checksum_fields c)) s f)
 
 -- ---- operations are entries
 
 length-spelling_of : (o : Operation) → length (spelling_of o) ≡ 64
 length-spelling_of (operation.Descriptor d) = length-spelling d
-length-spelling_of (operation.Checksum c) = (stands (checksum_fields c) c.listed).long
+length-spelling_of (operation.Checksum c) = (stands (checksum_fields c) (listed_fits (checksum_fields c) c.listed)).long
 
 no_fence : (flags : ℕ) → AreListedFlags flags → flags % 2 ≡ 0
 no_fence flags listed = omega (arith, bit_at_and flags refused_flags 0, ap (λ (n : ℕ). bit_at n 0) listed.refused, bit_at_lowest flags, bit_at-zero 0)

@@ -8,7 +8,7 @@ use Rattle.dsa_operations.specs.Faults.{Rule}
 use Rattle.dsa_operations.specs.Fields.{ChecksumFields}
 use Rattle.dsa_operations.specs.Places.{checksum_at}
 use Rattle.dsa_operations.specs.Profile.{AreListedFlags, IsListedChecksum}
-use Rattle.dsa_operations.proofs.Spelt.{Stands, flags_there}
+use Rattle.dsa_operations.proofs.Spelt.{Stands, flags_there, listed_fits}
 use Rattle.dsa_operations.proofs.Entire.{fields_at, named}
 
 owner_bits : (pasid : ℕ) (privileged : Bool) → pasid < 2 ^ 20 → (pasid + cond privileged (2 ^ 31) 0) / 2 ^ 20 % 2 ^ 11 ≡ 0
@@ -17,7 +17,7 @@ owner_bits pasid false lt = omega arith
 
 pub rules : (f : ChecksumFields) → IsListedChecksum f → (bytes : List ℕ) → Stands f bytes → (fault : FieldFault) → Rule bytes f.op fault
 rules f h bytes s Opcode = tt
-rules f h bytes s FlagBits = subst AreListedFlags (sym (flags_there f bytes h s)) h.flags_listed
+rules f h bytes s FlagBits = subst AreListedFlags (sym (flags_there f bytes (listed_fits f h) s)) h.flags_listed
 rules f h bytes s Reserved =
     (rw s.owner_there (owner_bits f.pasid f.privileged h.pasid_fits), s.destination_there, s.middle_zero, s.given_there, s.gap_zero, s.address_there, s.end_zero)
 rules f h bytes s SizeZero = rw s.size_there h.size_positive

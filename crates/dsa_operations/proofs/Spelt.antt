@@ -59,7 +59,28 @@ address-lt : (seed : Seed) → SeedFits seed → seed_address seed < 2 ^ 64
 address-lt (Given value) f = omega arith
 address-lt (At address) f = f
 
-pub stands : (f : ChecksumFields) → IsListedChecksum f → Stands f (checksum_spelling f)
+-- each field fits its place, and the flags tell where the seed is, listed or not
+pub record Fits (f : ChecksumFields) : Type 0 where
+  pub pasid_fits : f.pasid < 2 ^ 20
+  pub flags_fit : f.flags < 2 ^ 24
+  pub record_at_fits : f.record_at < 2 ^ 64
+  pub size_fits : f.size < 2 ^ 32
+  pub int_handle_fits : f.int_handle < 2 ^ 16
+  pub op_fits : FieldsFit f.op
+  pub seed_told : TellsSeed f.flags f.op
+
+pub listed_fits : (f : ChecksumFields) → IsListedChecksum f → Fits f
+listed_fits f h = record {
+  pasid_fits = h.pasid_fits;
+  flags_fit = h.flags_fit;
+  record_at_fits = h.record_at_fits;
+  size_fits = h.size_fits;
+  int_handle_fits = h.int_handle_fits;
+  op_fits = h.op_fits;
+  seed_told = h.seed_told;
+}
+
+pub stands : (f : ChecksumFields) → Fits f → Stands f (checksum_spelling f)
 unfolding checksum_spelling u16_at u32_at u64_at
 stands f h = record {
   long = refl;
@@ -99,10 +120,10 @@ unfolding checksum_at
 checksum_there (Crc src seed) bytes code source destination is = rw (code, source, is) refl
 checksum_there (CopyCrc src dst seed) bytes code source destination is = rw (code, source, destination, is) refl
 
-pub flags_there : (f : ChecksumFields) (bytes : List ℕ) → IsListedChecksum f → Stands f bytes → flags_at bytes ≡ f.flags
+pub flags_there : (f : ChecksumFields) (bytes : List ℕ) → Fits f → Stands f bytes → flags_at bytes ≡ f.flags
 flags_there f bytes h s = omega (arith, s.operation_there, h.flags_fit)
 
-pub op_there : (f : ChecksumFields) (bytes : List ℕ) → IsListedChecksum f → Stands f bytes → checksum_at bytes ≡ Some f.op
+pub op_there : (f : ChecksumFields) (bytes : List ℕ) → Fits f → Stands f bytes → checksum_at bytes ≡ Some f.op
 op_there f bytes h s =
     let told : TellsSeed (flags_at bytes) f.op = rw (flags_there f bytes h s) h.seed_told in
     checksum_there f.op bytes (omega (arith, s.operation_there, h.flags_fit)) s.source_there s.destination_there

@@ -1,8 +1,10 @@
 //! Descriptors of checksums.
 
-ghost use Rattle.std.specs.Prelude.{◌≡◌, Some};
+ghost use Rattle.std.specs.Prelude.{◌≡◌, ◌+◌, ◌*◌, ◌<◌, ◌^◌, Some, if◌then◌else◌};
+ghost use Rattle.dsa_operations.specs.Operands.{code_of};
 ghost use Rattle.dsa_operations.specs.Profile.{IsListedChecksum};
 ghost use Rattle.dsa_operations.specs.ProfileProps.{IsListedChecksum-prop};
+ghost use Rattle.dsa_operations.specs.Spelling.{checksum_spelling};
 
 use crate::checksum_op::ChecksumOp;
 use crate::flags::{BYPASSES_DATA_REFLECTION, BYPASSES_INVERSION};
@@ -50,13 +52,64 @@ pub struct Checksum {
     }) },
 }
 
+/// The first four bytes: the PASID and the privilege.
+fn owner_bits(pasid: u32, privileged: bool) -> u32
+    requires { pasid < 2 ^ 20 }
+    ensures { result ≡ pasid + (if privileged then 2 ^ 31 else 0) }
+{
+    if privileged { pasid | (1 << 31) } else { pasid }
+}
+
+/// The second four bytes: the flags and the operation code.
+fn operation_bits(flags: u32, op: &ChecksumOp) -> u32
+    requires { flags < 2 ^ 24 }
+    ensures { result ≡ flags + code_of op.now * 2 ^ 24 }
+{
+    flags | (u32::from(op.code()) << 24)
+}
+
+/// The 64 bytes of the fields of a checksum, which need not be those of a listed one. The flags say whether the seed is
+/// read from memory.
+pub fn checksum_bytes(
+    pasid: u32,
+    privileged: bool,
+    flags: u32,
+    record_at: u64,
+    size: u32,
+    int_handle: u16,
+    op: &ChecksumOp,
+) -> [u8; 64]
+    requires pasid { pasid < 2 ^ 20 }
+    requires flags { flags < 2 ^ 24 }
+    ensures { result ≡ checksum_spelling (record {
+      pasid = pasid;
+      privileged = privileged;
+      flags = flags;
+      record_at = record_at;
+      size = size;
+      int_handle = int_handle;
+      op = op.now;
+    }) }
+{
+    let mut bytes = [0; 64];
+    bytes[0..4].copy_from_slice(&owner_bits(pasid, privileged).to_le_bytes());
+    bytes[4..8].copy_from_slice(&operation_bits(flags, op).to_le_bytes());
+    bytes[8..16].copy_from_slice(&record_at.to_le_bytes());
+    bytes[16..24].copy_from_slice(&op.source_field().to_le_bytes());
+    bytes[24..32].copy_from_slice(&op.destination_field().to_le_bytes());
+    bytes[32..36].copy_from_slice(&size.to_le_bytes());
+    bytes[36..38].copy_from_slice(&int_handle.to_le_bytes());
+    bytes[40..44].copy_from_slice(&op.given_field().to_le_bytes());
+    bytes[48..56].copy_from_slice(&op.address_field().to_le_bytes());
+    bytes
+}
+
 impl Checksum {
     ghost use Rattle.dsa_descriptor.specs.declared.fault.FieldFault.{FieldFault};
     ghost use Rattle.dsa_operations.specs.Checksums.{checksum_fields, variant_of};
     ghost use Rattle.dsa_operations.specs.Data.{checksum_reads, checksum_writes};
     ghost use Rattle.dsa_operations.specs.Faults.{Rule};
     ghost use Rattle.dsa_operations.specs.Places.{checksum_at};
-    ghost use Rattle.dsa_operations.specs.Spelling.{checksum_spelling, operation_word, owner_word};
 
     /// Which of the four checksums the flags ask for.
     pub fn variant(&self) -> Variant
@@ -86,39 +139,19 @@ impl Checksum {
         }
     }
 
-    /// The first four bytes: the PASID and the privilege.
-    fn owner_word(&self) -> u32
-        ensures { result ≡ owner_word (checksum_fields self.now) }
-    {
-        if self.privileged {
-            self.pasid | (1 << 31)
-        } else {
-            self.pasid
-        }
-    }
-
-    /// The second four bytes: the flags and the operation code.
-    fn operation_word(&self) -> u32
-        ensures { result ≡ operation_word (checksum_fields self.now) }
-    {
-        self.flags.0 | (u32::from(self.op.code()) << 24)
-    }
-
     /// The 64 bytes that spell the checksum; there is one spelling.
     pub(crate) fn write(&self) -> [u8; 64]
         ensures { result ≡ checksum_spelling (checksum_fields self.now) }
     {
-        let mut bytes = [0; 64];
-        bytes[0..4].copy_from_slice(&self.owner_word().to_le_bytes());
-        bytes[4..8].copy_from_slice(&self.operation_word().to_le_bytes());
-        bytes[8..16].copy_from_slice(&self.record_at.to_le_bytes());
-        bytes[16..24].copy_from_slice(&self.op.source_field().to_le_bytes());
-        bytes[24..32].copy_from_slice(&self.op.destination_field().to_le_bytes());
-        bytes[32..36].copy_from_slice(&self.size.to_le_bytes());
-        bytes[36..38].copy_from_slice(&self.int_handle.to_le_bytes());
-        bytes[40..44].copy_from_slice(&self.op.given_field().to_le_bytes());
-        bytes[48..56].copy_from_slice(&self.op.address_field().to_le_bytes());
-        bytes
+        checksum_bytes(
+            self.pasid,
+            self.privileged,
+            self.flags.0,
+            self.record_at,
+            self.size,
+            self.int_handle,
+            &self.op,
+        )
     }
 
     /// What the checksum reads and writes, its completion record included.

@@ -9,7 +9,7 @@ mod operation;
 mod places;
 mod reading;
 
-pub use checksum::Checksum;
+pub use checksum::{Checksum, checksum_bytes};
 pub use checksum_op::{ChecksumOp, Seed};
 pub use laws::{checksums_are_listed, checksums_are_spelt, one_spelling};
 pub use operation::{Operation, OperationList};

@@ -3,15 +3,16 @@ use Rattle.std.proofs.Common.{◌≡◌, ℕ, List, Option, Some, None, ap, ◌�
 use Rattle.dsa_descriptor.specs.declared.fault.ListFault.{ListFault}
 use Rattle.dsa_descriptor.specs.declared.fault.ListFault.TheVariants.{Memory as ListMemory}
 use Rattle.std.proofs.lemmas.Option.{same_Some}
-use Rattle.dsa_descriptor.specs.Fields.{Fields}
+use Rattle.dsa_descriptor.specs.Lists.{IsFirstFaultBy}
+use Rattle.dsa_operations.specs.Faults.{OperationKeeps}
+use Rattle.dsa_operations.specs.OperationFields.{OperationFields, all_spelled}
 use Rattle.dsa_lines.specs.Texts.{all_fields}
 use Rattle.dsa_lines.proofs.TextLemmas.{leaves_none}
-use Rattle.dsa_descriptor.specs.Lists.{list_spelling}
 use Rattle.dsa_lines.specs.declared.fault.TextFault.{TextFault}
 use Rattle.dsa_lines.specs.declared.fault.TextFault.TheVariants.{Grammar, List as Listed, Memory}
-use Rattle.dsa_lines.specs.Assembled.{IsTextFault, LeavesGrammarAt, Stops, StopsAt}
+use Rattle.dsa_lines.specs.Assembled.{IsAssemblyFault, IsTextFault, LeavesGrammarAt, Stops, StopsAt}
 
-pub stops_memory : (lines : List (List ℕ)) (fs : List Fields) (fault : TextFault) → all_fields lines ≡ Some fs → Stops lines fault → fault ≡ Memory
+pub stops_memory : (lines : List (List ℕ)) (fs : List OperationFields) (fault : TextFault) → all_fields lines ≡ Some fs → Stops lines fault → fault ≡ Memory
 stops_memory lines fs (Grammar line column what) e stops = let no : None ≡ Some fs = sym (leaves_none lines line stops) ∙ e in absurd cc
 stops_memory lines fs (Listed line fault) e stops = absurd stops
 stops_memory lines fs Memory e stops = λ i. Memory
@@ -22,11 +23,19 @@ memory_told fault (Listed line listed) e is = absurd (is.1 e)
 memory_told fault Memory e is = λ i. Memory
 
 -- what stops a line stops the lines, of which it is the first that leaves the grammar
-pub stops_there : (number : ℕ) (read : Option (List Fields)) (lines : List (List ℕ)) (fault : TextFault) → (read ≡ None → LeavesGrammarAt lines number)
+pub stops_there : (number : ℕ) (read : Option (List OperationFields)) (lines : List (List ℕ)) (fault : TextFault) → (read ≡ None → LeavesGrammarAt lines number)
     → StopsAt number read fault → Stops lines fault
 stops_there number read lines (Grammar line column what) leaves e = subst (LeavesGrammarAt lines) (sym e.0) (leaves e.1)
 stops_there number read lines (Listed line fault) leaves e = e
 stops_there number read lines Memory leaves e = tt
 
-pub same_fields : (fs gs : List Fields) (read : Option (List Fields)) (bytes : List ℕ) → read ≡ Some fs → read ≡ Some gs → bytes ≡ list_spelling fs → bytes ≡ list_spelling gs
-same_fields fs gs read bytes e f b = b ∙ ap list_spelling (same_Some fs gs (sym e ∙ f))
+pub same_fields : (fs gs : List OperationFields) (read : Option (List OperationFields)) (bytes : List ℕ) → read ≡ Some fs → read ≡ Some gs → bytes ≡ all_spelled fs → bytes ≡ all_spelled gs
+same_fields fs gs read bytes e f b = b ∙ ap all_spelled (same_Some fs gs (sym e ∙ f))
+
+-- a fault of the bytes of lines, as it is told
+pub told_fault : (lines : List (List ℕ)) (fs : List OperationFields) (seen : List ℕ) (fault : ListFault) (told : TextFault) → all_fields lines ≡ Some fs
+    → seen ≡ all_spelled fs → IsFirstFaultBy OperationKeeps seen fault → IsTextFault fault told → IsAssemblyFault lines told
+told_fault lines fs seen fault (Grammar line column what) e same first is = absurd is
+told_fault lines fs seen fault (Listed line listed) e same first is =
+    (fs, e, subst (λ (b : List ℕ). IsFirstFaultBy OperationKeeps b listed) same (subst (IsFirstFaultBy OperationKeeps seen) (sym is.0) first), λ memory. is.1 (sym is.0 ∙ memory))
+told_fault lines fs seen fault Memory e same first is = tt

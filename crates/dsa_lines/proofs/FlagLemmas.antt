@@ -1,22 +1,29 @@
 -- The flags of an operation of a list are the required ones, the carried ones, check result, and that of a seed in memory.
-use Rattle.std.proofs.Common.{◌≡◌, ℕ, zero, suc, ◌+◌, ◌*◌, ◌^◌, ◌<◌, ◌==◌, Bool, true, cond, min, max, inl, inr, refl, sym, ap, ◌∙◌, arith}
+use Rattle.std.proofs.Common.{◌≡◌, ℕ, zero, suc, ◌+◌, ◌*◌, ◌%◌, ◌^◌, ◌<◌, ◌==◌, Bool, true, false, cond, min, max, inl, inr, refl, sym, ap, ◌∙◌, arith}
 use Rattle.std.specs.Prelude.{bit_and, bit_or, not, ◌&&◌}
 use Rattle.std.specs.Int.{bit_at}
-use Rattle.std.specs.Int.Bits.{or_zero_r}
-use Rattle.std.proofs.lemmas.Bool.{and_parts, cases_lt, eqb-true}
-use Rattle.std.proofs.lemmas.Nat.{and_le_r}
-use Rattle.std.proofs.lemmas.Nat.Bits.{bit_at_and, bit_at_or, bit_at-zero, bit_at-lt, and_pow, same_from_bits, bit_at_above}
+use Rattle.std.specs.Int.Bits.{and_zero_l, or_zero_r}
+use Rattle.std.proofs.lemmas.Bool.{and_parts, cases_lt, eqb-true, eq-eqb}
+use Rattle.std.proofs.lemmas.Nat.{and_le_r, and_or_apart, and_or_self, or_lt}
+use Rattle.std.proofs.lemmas.Nat.Bits.{bit_at_and, bit_at_lowest, bit_at_or, bit_at-zero, bit_at-lt, and_pow, same_from_bits, bit_at_above}
 use Rattle.dsa_descriptor.specs.declared.op.Op.{Op}
 use Rattle.dsa_descriptor.specs.declared.op.Op.TheVariants.{Move, Fill, Compare, ComparePattern, ApplyDelta, Dualcast}
 use Rattle.dsa_descriptor.specs.Profile.{required_flags, refused_flags, AreListedFlags}
-use Rattle.dsa_lines.specs.Options.{carried_mask, check_mask, carried_flags, checks_result, flags_with}
+use Rattle.dsa_operations.specs.declared.checksum_op.ChecksumOp.{ChecksumOp}
+use Rattle.dsa_operations.specs.declared.checksum_op.Seed.{Seed}
+use Rattle.dsa_operations.specs.declared.checksum_op.Seed.TheVariants.{Given, At}
+use Rattle.dsa_operations.specs.Operands.{has_flag, is_in_memory, seed_of}
+use Rattle.dsa_operations.specs.Profile as checksums
+use Rattle.dsa_lines.specs.declared.operations.LineOp.{LineOp}
+use Rattle.dsa_lines.specs.declared.operations.LineOp.TheVariants as line_op
+use Rattle.dsa_lines.specs.Options.{carried_mask, check_mask, carried_flags, checks_result, flags_with, line_flags, seed_flag}
 
 -- the flags that neither kind of operation may have, whatever it does
 abbrev refused_mask : ℕ
 refused_mask = 0xf80051
 
 -- the flag that says that a seed is read from memory
-abbrev seed_mask : ℕ
+abbrev pub seed_mask : ℕ
 seed_mask = 0x010000
 
 -- each bit below the count is in one of the masks, and in one alone
@@ -126,6 +133,21 @@ flags_again op flags listed fit =
     sym (or_zero_r (flags_with (carried_flags flags) (checks_result flags)))
     ∙ parts_again flags 0 listed.required (part_none flags 0xf90051 refused_mask refused refl) fit (sym (part_none flags 0xf90051 seed_mask refused refl))
 
+-- the flag of a seed is that of the flags which tell where the seed is
+seed_value : (x b : ℕ) (seed : Seed) → x ≡ b * 65536 → b < 2 → (x == seed_mask) ≡ is_in_memory seed → seed_flag seed ≡ x
+seed_value x zero (Given value) e lt told = rw e refl
+seed_value x zero (At address) e lt told = absurd (let no : false ≡ true = rw e at told in cc)
+seed_value x (suc zero) (Given value) e lt told = absurd (let no : true ≡ false = rw e at told in cc)
+seed_value x (suc zero) (At address) e lt told = rw e refl
+seed_value x (suc (suc b)) seed e lt told = absurd (omega arith)
+
+-- those of a checksum
+pub checksum_flags_again : (op : ChecksumOp) (flags : ℕ) → checksums.AreListedFlags flags → checksums.TellsSeed flags op → flags < 2 ^ 24
+    → bit_or (flags_with (carried_flags flags) (checks_result flags)) (seed_flag (seed_of op)) ≡ flags
+checksum_flags_again op flags listed told fit =
+    parts_again flags (seed_flag (seed_of op)) listed.required (part_none flags checksums.refused_flags refused_mask listed.refused refl) fit
+    (seed_value (bit_and flags seed_mask) (bit_at flags 16) (seed_of op) (and_pow flags 16) (bit_at-lt flags 16) told)
+
 -- ---- the carried flags
 
 twice : (f c : ℕ) → min (min f c) c ≡ min f c
@@ -142,3 +164,69 @@ carried_again flags =
 
 pub carried_fit : (flags : ℕ) → carried_flags flags < 2 ^ 24
 carried_fit flags = omega (arith, and_le_r flags carried_mask)
+
+-- ---- flags that a line does not have
+
+outside_bit : (c m o : ℕ) → c < 2 → m < 2 → o < 2 → min c m ≡ c → min m o ≡ 0 → min c o ≡ 0
+outside_bit c m o c2 m2 o2 inside apart = omega arith
+
+carried_none : (carried other : ℕ) → bit_and carried carried_mask ≡ carried → bit_and carried_mask other ≡ 0 → bit_and carried other ≡ 0
+carried_none carried other inside apart =
+    same_from_bits (bit_and carried other) 0 (λ i.
+    bit_at_and carried other i
+    ∙ outside_bit (bit_at carried i) (bit_at carried_mask i) (bit_at other i) (bit_at-lt carried i) (bit_at-lt carried_mask i) (bit_at-lt other i)
+    (sym (bit_at_and carried carried_mask i) ∙ ap (λ (n : ℕ). bit_at n i) inside)
+    (sym (bit_at_and carried_mask other i) ∙ ap (λ (n : ℕ). bit_at n i) apart ∙ bit_at-zero i)
+    ∙ sym (bit_at-zero i)
+    )
+
+check_none : (check : Bool) (other : ℕ) → bit_and check_mask other ≡ 0 → bit_and (cond check check_mask 0) other ≡ 0
+check_none true other apart = apart
+check_none false other apart = and_zero_l other
+
+-- flags that no option gives are not in those that the options give
+pub none_with : (carried : ℕ) (check : Bool) (other : ℕ) → bit_and carried carried_mask ≡ carried → bit_and carried_mask other ≡ 0 → bit_and required_flags other ≡ 0 → bit_and check_mask other ≡ 0
+    → bit_and (flags_with carried check) other ≡ 0
+none_with carried check other inside apart required checked =
+    and_or_apart other (bit_or required_flags carried) (cond check check_mask 0) (check_none check other checked)
+    ∙ and_or_apart other required_flags carried (carried_none carried other inside apart)
+    ∙ required
+
+-- so the flags of a line tell where its seed is
+pub line_tells : (seed : Seed) (carried : ℕ) (check : Bool) → bit_and carried carried_mask ≡ carried
+    → has_flag (bit_or (flags_with carried check) (seed_flag seed)) seed_mask ≡ is_in_memory seed
+line_tells (Given value) carried check inside =
+    ap (λ (n : ℕ). has_flag n seed_mask) (or_zero_r (flags_with carried check))
+    ∙ ap (λ (n : ℕ). n == seed_mask) (none_with carried check seed_mask inside refl refl refl)
+line_tells (At address) carried check inside = eq-eqb _ _ (and_or_self seed_mask (flags_with carried check))
+
+-- flags that are carried have 24 bits
+pub carried_below : (carried : ℕ) → bit_and carried carried_mask ≡ carried → carried < 2 ^ 24
+carried_below carried inside = omega (arith, and_le_r carried carried_mask, inside)
+
+pub flags_below : (carried : ℕ) (check : Bool) → bit_and carried carried_mask ≡ carried → flags_with carried check < 2 ^ 24
+flags_below carried true inside = or_lt 24 (bit_or required_flags carried) check_mask (or_lt 24 required_flags carried (omega arith) (carried_below carried inside)) (omega arith)
+flags_below carried false inside = or_lt 24 (bit_or required_flags carried) 0 (or_lt 24 required_flags carried (omega arith) (carried_below carried inside)) (omega arith)
+
+seed_below : (seed : Seed) → seed_flag seed < 2 ^ 24
+seed_below (Given value) = omega arith
+seed_below (At address) = omega arith
+
+pub line_flags_below : (op : LineOp) (carried : ℕ) (check : Bool) → bit_and carried carried_mask ≡ carried → line_flags op carried check < 2 ^ 24
+line_flags_below (line_op.Descriptor op) carried check inside = flags_below carried check inside
+line_flags_below (line_op.Checksum op) carried check inside =
+    or_lt 24 (flags_with carried check) (seed_flag (seed_of op)) (flags_below carried check inside) (seed_below (seed_of op))
+
+-- no line has the flag fence, which is the lowest
+even_flags : (flags : ℕ) → bit_and flags 1 ≡ 0 → flags % 2 ≡ 0
+even_flags flags none = omega (arith, bit_at_and flags 1 0, ap (λ (n : ℕ). bit_at n 0) none, bit_at_lowest flags, bit_at-zero 0)
+
+seed_even : (seed : Seed) → bit_and (seed_flag seed) 1 ≡ 0
+seed_even (Given value) = refl
+seed_even (At address) = refl
+
+pub line_flags_even : (op : LineOp) (carried : ℕ) (check : Bool) → bit_and carried carried_mask ≡ carried → line_flags op carried check % 2 ≡ 0
+line_flags_even (line_op.Descriptor op) carried check inside = even_flags (flags_with carried check) (none_with carried check 1 inside refl refl refl)
+line_flags_even (line_op.Checksum op) carried check inside =
+    even_flags (bit_or (flags_with carried check) (seed_flag (seed_of op)))
+    (and_or_apart 1 (flags_with carried check) (seed_flag (seed_of op)) (seed_even (seed_of op)) ∙ none_with carried check 1 inside refl refl refl)

@@ -1,8 +1,7 @@
 -- What is gathered of the lines of a text, one line after another.
 use Rattle.std.proofs.Common.{◌≡◌, ℕ, ◌+◌, Bool, false, Some, List, [], ◌∷◌, ◌++◌, length, map, refl, sym, ap, subst, ◌∙◌, append_assoc, length-append, arith}
 use Rattle.std.proofs.lemmas.List.{append-nil}
-use Rattle.dsa_descriptor.specs.Fields.{Fields}
-use Rattle.dsa_descriptor.specs.Lists.{list_spelling}
+use Rattle.dsa_operations.specs.OperationFields.{OperationFields, all_spelled}
 use Rattle.dsa_lines.specs.declared.fault.TextFault.{TextFault}
 use Rattle.dsa_lines.specs.declared.fault.TextFault.TheVariants.{Grammar, List as Listed, Memory}
 use Rattle.dsa_lines.specs.declared.text_list.Gathered.{Gathered}
@@ -19,11 +18,11 @@ use Rattle.dsa_lines.proofs.TextLemmas.{fields_more, no_fields, spelling_append}
 -- what was gathered of the lines before those that are left; the next one has this number
 pub record Sofar (keep : Bool) (whole left : List (List ℕ)) (number : ℕ) (pending : Bool) (g : Gathered) : Type 0 where
   pub before : List (List ℕ)
-  pub done : List Fields
+  pub done : List OperationFields
   pub whole_is : whole ≡ before ++ left
   pub number_is : number ≡ length before + 1
   pub spelled : all_fields before ≡ Some done
-  pub bytes : g.bytes.items ≡ list_spelling done
+  pub bytes : g.bytes.items ≡ all_spelled done
   pub marks : g.marks.items ++ marks_from keep pending left ≡ marks_from keep false whole
   pub numbers : map line_shown g.lines.items ++ operation_lines number left ≡ operation_lines 1 whole
 
@@ -62,7 +61,7 @@ more keep pending next whole all lines line number g g' s is m =
       whole_is = s.whole_is ∙ ap (λ (ls : List (List ℕ)). s.before ++ ls) is ∙ sym (append_assoc s.before (line ∷ []) lines);
       number_is = omega (arith, s.number_is, length-append s.before (line ∷ []));
       spelled = fields_more s.before line s.done m.here s.spelled m.spelled;
-      bytes = m.bytes ∙ ap (λ (b : List ℕ). b ++ list_spelling m.here) s.bytes ∙ sym (spelling_append s.done m.here);
+      bytes = m.bytes ∙ ap (λ (b : List ℕ). b ++ all_spelled m.here) s.bytes ∙ sym (spelling_append s.done m.here);
       marks = moved g.marks.items g'.marks.items (line_marks keep pending (line_kind (words_of line))) (marks_from keep next lines) (marks_from keep pending all) _ m.marks
           (ap (marks_from keep pending) is ∙ marks_next keep pending line lines ∙ ap (λ (p : Bool). line_marks keep pending (line_kind (words_of line)) ++ marks_from keep p lines) (sym m.next_is)) s.marks;
       numbers = moved (map line_shown g.lines.items) (map line_shown g'.lines.items) (numbered number line (line_kind (words_of line))) (operation_lines (number + 1) lines) (operation_lines number all) _ m.lines

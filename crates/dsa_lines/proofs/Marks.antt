@@ -1,23 +1,20 @@
 -- The barriers of a text, and lists with barriers.
-use Rattle.std.proofs.Common.{◌≡◌, ◌≢◌, ℕ, zero, suc, ◌+◌, ◌<◌, Bool, true, false, Some, List, [], ◌∷◌, ◌++◌, length, take, drop, get_or, map, refl, sym, ap, ◌∙◌, append_assoc, length-append, arith}
+use Rattle.std.proofs.Common.{◌≡◌, ◌≢◌, ℕ, zero, suc, ◌+◌, ◌%◌, ◌<◌, Bool, true, false, Some, List, [], ◌∷◌, ◌++◌, length, take, drop, get_or, map, refl, sym, ap, ◌∙◌, append_assoc, length-append, arith}
 use Rattle.std.specs.Prelude.{codes, slice_get, if◌then◌else◌}
-use Rattle.std.specs.List.{AllByRecursion}
+use Rattle.std.specs.List.{AllByRecursion, flat_map}
 use Rattle.std.specs.Str.{bytes_eq}
 use Rattle.std.proofs.lemmas.List.{append-nil, length-map}
 use Rattle.std.proofs.lemmas.Option.{same_Some}
 use Rattle.dsa_descriptor.proofs.Marked.{dropped}
-use Rattle.dsa_descriptor.specs.declared.descriptor.Descriptor.{Descriptor}
-use Rattle.dsa_descriptor.specs.Descriptors.{fields}
-use Rattle.dsa_descriptor.specs.Fields.{Fields}
-use Rattle.dsa_descriptor.specs.Lists.{list_spelling, HaveOneOwner}
-use Rattle.dsa_descriptor.specs.Profile.{IsListed}
-use Rattle.dsa_descriptor.specs.Spelling.{spelling}
+use Rattle.dsa_descriptor.specs.Lists.{AreOfOneOwner}
 use Rattle.dsa_descriptor.proofs.Seen.{barriers_count}
-use Rattle.dsa_descriptor.specs.Fences.{with_fence, marked_spelling}
-use Rattle.dsa_descriptor.proofs.Fenced.{length-fenced_one, one_fenced}
+use Rattle.dsa_descriptor.specs.Fences.{fenced, fenced_entries, is_fenced, unfenced}
+use Rattle.dsa_descriptor.proofs.Fenced.{fenced_is, length-fenced, unfenced_fenced}
 use Rattle.dsa_operations.specs.declared.operation.Operation.{Operation as AnyOperation}
-use Rattle.dsa_operations.specs.OperationFields.{OperationFields, operation_fields}
-use Rattle.dsa_operations.specs.OperationFields.OperationFields.{OfDescriptor}
+use Rattle.dsa_operations.specs.OperationFields.{OperationFields, AreListedFields, operation_fields}
+use Rattle.dsa_operations.specs.Operations.{spelling_of}
+use Rattle.dsa_operations.proofs.Answered.{are_operations}
+use Rattle.dsa_operations.proofs.Same.{one_spelling}
 use Rattle.dsa_lines.specs.Assembled.{IsListing}
 use Rattle.dsa_lines.specs.Words.{Word, words_in, words_of}
 use Rattle.dsa_lines.specs.Grammar.{fields_of, op_at, ◌>>=◌}
@@ -27,11 +24,12 @@ use Rattle.dsa_lines.specs.Texts.{all_fields, line_fields, lines_of, text_line, 
 use Rattle.dsa_lines.specs.Barriers.{barrier_line, barriers_of, IsMarkedListing, LineKind, line_kind, line_marks, marked_text, marks_from, pending_after, OneMarkEach, OneMarkedSpelling, MarkedTextSpells}
 use Rattle.dsa_lines.specs.Barriers.LineKind.{Other, Barrier, Fenced, Operation}
 use Rattle.dsa_lines.specs.TextLists.{numbered, operation_lines, OneLineEach}
+use Rattle.dsa_lines.proofs.WordLemmas.{same_word}
 use Rattle.dsa_lines.proofs.LineLemmas.{canonical_is_line}
-use Rattle.dsa_lines.proofs.OneText.{bound, front, more_fields, spelled_list}
+use Rattle.dsa_lines.proofs.OneText.{bound, front, more_fields, spelled_is, spelled_list}
 use Rattle.dsa_lines.proofs.ReadAgain.{line_before, nothing}
 use Rattle.dsa_lines.proofs.RoundTrip.{line_spells}
-use Rattle.dsa_lines.proofs.TextLemmas.{barrier_spells_none, batch_spells_none, fence_spells_none, line_first, same_word, spelt_line}
+use Rattle.dsa_lines.proofs.TextLemmas.{barrier_spells_none, batch_spells_none, fence_spells_none, line_first, spelt_line}
 
 -- ---- the marks of lines, one line after another
 
@@ -76,28 +74,28 @@ none_written bs = refl
 
 -- ---- what assembling a list with barriers answers
 
-pub marked_listing : (keep : Bool) (lines : List (List ℕ)) (ds : List Descriptor) (marks : List Bool) (bytes : List ℕ) → IsListing lines (list_spelling (map fields ds)) → HaveOneOwner (map fields ds)
-    → marks ≡ barriers_of keep lines → bytes ≡ marked_spelling (map fields ds) marks → IsMarkedListing keep lines bytes
-marked_listing keep lines ds marks bytes listing owner are e =
+pub marked_listing : (keep : Bool) (lines : List (List ℕ)) (os : List AnyOperation) (marks : List Bool) (bytes : List ℕ) → IsListing lines (flat_map spelling_of os) → AreOfOneOwner spelling_of os
+    → marks ≡ barriers_of keep lines → bytes ≡ fenced_entries spelling_of os marks → IsMarkedListing keep lines bytes
+marked_listing keep lines os marks bytes listing owner are e =
     record {
-      operations = ds;
-      spelled = listing.spelled ∙ ap Some (spelled_list lines (map fields listing.operations) ds listing.spelled (sym listing.bytes_are));
+      operations = os;
+      spelled = listing.spelled ∙ ap Some (spelled_list lines (map operation_fields listing.operations) os listing.spelled (spelled_is listing.operations ∙ sym listing.bytes_are));
       one_owner = owner;
-      bytes_are = e ∙ ap (marked_spelling (map fields ds)) are;
+      bytes_are = e ∙ ap (fenced_entries spelling_of os) are;
     }
 
 -- ---- a mark for each operation
 
-no_fields : (ws : List Word) (here : List Fields) → at_end [] ws ≡ Some here → 0 ≡ length here
+no_fields : (ws : List Word) (here : List OperationFields) → at_end [] ws ≡ Some here → 0 ≡ length here
 no_fields [] here e = ap length (same_Some [] here e)
 no_fields (w ∷ ws) here e = absurd cc
 
-one_field : (ws : List Word) (here : List Fields) → (fields_of ws >>= λ f. Some (f ∷ [])) ≡ Some here → 1 ≡ length here
+one_field : (ws : List Word) (here : List OperationFields) → (fields_of ws >>= λ f. Some (f ∷ [])) ≡ Some here → 1 ≡ length here
 one_field ws here e =
     let f = bound (fields_of ws) _ here e in
     ap length (same_Some (f.0 ∷ []) here f.2)
 
-count_by : (batch barrier fence keep pending : Bool) (w : Word) (ws : List Word) (here : List Fields)
+count_by : (batch barrier fence keep pending : Bool) (w : Word) (ws : List Word) (here : List OperationFields)
     → (if batch then (batch_at ws >>= λ b. Some []) else if barrier then at_end [] ws else if fence then (fields_of ws >>= λ f. Some (f ∷ [])) else (fields_of (w ∷ ws) >>= λ f. Some (f ∷ []))) ≡ Some here
     → length (line_marks keep pending (if batch then Other else if barrier then Barrier else if fence then Fenced else Operation)) ≡ length here
 count_by true barrier fence keep pending w ws here e =
@@ -107,13 +105,13 @@ count_by false true fence keep pending w ws here e = no_fields ws here e
 count_by false false true keep pending w ws here e = one_field ws here e
 count_by false false false keep pending w ws here e = one_field (w ∷ ws) here e
 
-line_count : (keep pending : Bool) (words : List Word) (here : List Fields) → line_fields words ≡ Some here → length (line_marks keep pending (line_kind words)) ≡ length here
+line_count : (keep pending : Bool) (words : List Word) (here : List OperationFields) → line_fields words ≡ Some here → length (line_marks keep pending (line_kind words)) ≡ length here
 unfolding line_fields line_kind
 line_count keep pending [] here e = ap length (same_Some [] here e)
 line_count keep pending (w ∷ ws) here e =
     count_by (bytes_eq w (codes "batch")) (bytes_eq w (codes "barrier")) (bytes_eq w (codes "fence")) keep pending w ws here e
 
-lines_count : (keep pending : Bool) (lines : List (List ℕ)) (fs : List Fields) → all_fields lines ≡ Some fs → length (marks_from keep pending lines) ≡ length fs
+lines_count : (keep pending : Bool) (lines : List (List ℕ)) (fs : List OperationFields) → all_fields lines ≡ Some fs → length (marks_from keep pending lines) ≡ length fs
 unfolding all_fields marks_from
 lines_count keep pending [] fs e = ap length (same_Some [] fs e)
 lines_count keep pending (line ∷ lines) fs e =
@@ -153,16 +151,18 @@ pub one_line_each : OneLineEach
 one_line_each text fs e = lines_numbered 1 false (lines_of text) ∙ one_mark_each false text fs e
 
 -- the barriers of a text are none, or there is a mark for each operation
-pub marks_count : (keep : Bool) (text : List ℕ) (ds : List Descriptor) (barriers : List Bool) → IsListing (lines_of text) (list_spelling (map fields ds)) → barriers ≡ barriers_of keep (lines_of text)
-    → barriers ≢ [] → length barriers ≡ length ds
-marks_count keep text ds barriers listing is =
-    let same : map fields listing.operations ≡ map fields ds = spelled_list (lines_of text) (map fields listing.operations) ds listing.spelled (sym listing.bytes_are) in
-    let count : length (marks_from keep false (lines_of text)) ≡ length ds = one_mark_each keep text (map fields listing.operations) listing.spelled ∙ ap length same ∙ length-map ds fields in
-    barriers_count barriers (marks_from keep false (lines_of text)) (length ds) is count
+pub marks_count : (keep : Bool) (text : List ℕ) (os : List AnyOperation) (barriers : List Bool) → IsListing (lines_of text) (flat_map spelling_of os) → barriers ≡ barriers_of keep (lines_of text)
+    → barriers ≢ [] → length barriers ≡ length os
+marks_count keep text os barriers listing is =
+    let same : map operation_fields listing.operations ≡ map operation_fields os =
+    spelled_list (lines_of text) (map operation_fields listing.operations) os listing.spelled (spelled_is listing.operations ∙ sym listing.bytes_are) in
+    let count : length (marks_from keep false (lines_of text)) ≡ length os =
+    one_mark_each keep text (map operation_fields listing.operations) listing.spelled ∙ ap length same ∙ length-map os operation_fields in
+    barriers_count barriers (marks_from keep false (lines_of text)) (length os) is count
 
 -- ---- the canonical text of a list with barriers
 
-kind_by : (batch barrier fence : Bool) (w : Word) (ws : List Word) (f : Fields) → bytes_eq w (codes "batch") ≡ batch → bytes_eq w (codes "barrier") ≡ barrier
+kind_by : (batch barrier fence : Bool) (w : Word) (ws : List Word) (f : OperationFields) → bytes_eq w (codes "batch") ≡ batch → bytes_eq w (codes "barrier") ≡ barrier
     → bytes_eq w (codes "fence") ≡ fence → fields_of (w ∷ ws) ≡ Some f → line_kind (w ∷ ws) ≡ Operation
 unfolding line_kind
 kind_by true barrier fence w ws f p b q e = absurd (batch_spells_none w ws f (same_word w (codes "batch") p) e)
@@ -170,7 +170,7 @@ kind_by false true fence w ws f p b q e = absurd (barrier_spells_none w ws f (sa
 kind_by false false true w ws f p b q e = absurd (fence_spells_none w ws f (same_word w (codes "fence") q) e)
 kind_by false false false w ws f p b q e = rw (p, b, q) refl
 
-operation_kind : (words : List Word) (f : Fields) → fields_of words ≡ Some f → line_kind words ≡ Operation
+operation_kind : (words : List Word) (f : OperationFields) → fields_of words ≡ Some f → line_kind words ≡ Operation
 unfolding fields_of op_at
 operation_kind [] f e = absurd cc
 operation_kind (w ∷ ws) f e = kind_by (bytes_eq w (codes "batch")) (bytes_eq w (codes "barrier")) (bytes_eq w (codes "fence")) w ws f refl refl refl e
@@ -191,40 +191,40 @@ no_lines : lines_of [] ≡ [] ∷ []
 unfolding lines_of
 no_lines = refl
 
-spells_marked : (m : Bool) (rest : List ℕ) (fs : List Fields) → TextSpells rest fs → TextSpells (barrier_line m ++ rest) fs
+spells_marked : (m : Bool) (rest : List ℕ) (fs : List OperationFields) → TextSpells rest fs → TextSpells (barrier_line m ++ rest) fs
 spells_marked false rest fs e = e
 spells_marked true rest fs e = line_before (codes "barrier") rest [] fs refl barrier_spells e
 
-marked_spells : (fs : List Fields) (marks : List Bool) → AllByRecursion IsListed fs → TextSpells (marked_text (map OfDescriptor fs) marks) fs
+marked_spells : (fs : List OperationFields) (marks : List Bool) → AllByRecursion AreListedFields fs → TextSpells (marked_text fs marks) fs
 unfolding marked_text
 marked_spells [] marks all = nothing
 marked_spells (f ∷ fs) marks all =
-    spells_marked (get_or marks 0 false) (text_line (OfDescriptor f) ++ marked_text (map OfDescriptor fs) (drop 1 marks)) (f ∷ fs)
-    (line_before (line_text (OfDescriptor f)) (marked_text (map OfDescriptor fs) (drop 1 marks)) (f ∷ []) fs (canonical_is_line (OfDescriptor f) all.0)
-    (spelt_line (words_of (line_text (OfDescriptor f))) f (line_spells f all.0)) (marked_spells fs (drop 1 marks) all.1))
+    spells_marked (get_or marks 0 false) (text_line f ++ marked_text fs (drop 1 marks)) (f ∷ fs)
+    (line_before (line_text f) (marked_text fs (drop 1 marks)) (f ∷ []) fs (canonical_is_line f all.0)
+    (spelt_line (words_of (line_text f)) f (line_spells f all.0)) (marked_spells fs (drop 1 marks) all.1))
 
 -- the mark of an operation whose line is before others
-operation_marks : (keep pending : Bool) (f : Fields) (rest : List ℕ) → IsListed f
-    → marks_from keep pending (lines_of (text_line (OfDescriptor f) ++ rest)) ≡ pending ∷ marks_from keep false (lines_of rest)
+operation_marks : (keep pending : Bool) (f : OperationFields) (rest : List ℕ) → AreListedFields f
+    → marks_from keep pending (lines_of (text_line f ++ rest)) ≡ pending ∷ marks_from keep false (lines_of rest)
 operation_marks keep pending f rest listed =
-    let kind : line_kind (words_of (line_text (OfDescriptor f))) ≡ Operation = operation_kind (words_of (line_text (OfDescriptor f))) f (line_spells f listed) in
-    ap (λ (t : List ℕ). marks_from keep pending (lines_of t)) (append_assoc (line_text (OfDescriptor f)) (10 ∷ []) rest)
-    ∙ ap (marks_from keep pending) (line_first (line_text (OfDescriptor f)) rest (canonical_is_line (OfDescriptor f) listed))
-    ∙ marks_next keep pending (line_text (OfDescriptor f)) (lines_of rest)
+    let kind : line_kind (words_of (line_text f)) ≡ Operation = operation_kind (words_of (line_text f)) f (line_spells f listed) in
+    ap (λ (t : List ℕ). marks_from keep pending (lines_of t)) (append_assoc (line_text f) (10 ∷ []) rest)
+    ∙ ap (marks_from keep pending) (line_first (line_text f) rest (canonical_is_line f listed))
+    ∙ marks_next keep pending (line_text f) (lines_of rest)
     ∙ ap (λ (k : LineKind). line_marks keep pending k ++ marks_from keep (pending_after pending k) (lines_of rest)) kind
 
 -- a barrier before it, if it is marked
-marked_first : (keep m : Bool) (f : Fields) (rest : List ℕ) → IsListed f
-    → marks_from keep false (lines_of (barrier_line m ++ (text_line (OfDescriptor f) ++ rest))) ≡ m ∷ marks_from keep false (lines_of rest)
+marked_first : (keep m : Bool) (f : OperationFields) (rest : List ℕ) → AreListedFields f
+    → marks_from keep false (lines_of (barrier_line m ++ (text_line f ++ rest))) ≡ m ∷ marks_from keep false (lines_of rest)
 marked_first keep false f rest listed = operation_marks keep false f rest listed
 marked_first keep true f rest listed =
-    ap (marks_from keep false) (line_first (codes "barrier") (text_line (OfDescriptor f) ++ rest) refl)
-    ∙ marks_next keep false (codes "barrier") (lines_of (text_line (OfDescriptor f) ++ rest))
-    ∙ ap (λ (k : LineKind). line_marks keep false k ++ marks_from keep (pending_after false k) (lines_of (text_line (OfDescriptor f) ++ rest))) barrier_kind
+    ap (marks_from keep false) (line_first (codes "barrier") (text_line f ++ rest) refl)
+    ∙ marks_next keep false (codes "barrier") (lines_of (text_line f ++ rest))
+    ∙ ap (λ (k : LineKind). line_marks keep false k ++ marks_from keep (pending_after false k) (lines_of (text_line f ++ rest))) barrier_kind
     ∙ operation_marks keep true f rest listed
 
-marks_again : (keep : Bool) (fs : List Fields) (marks : List Bool) → AllByRecursion IsListed fs → length marks ≡ length fs
-    → marks_from keep false (lines_of (marked_text (map OfDescriptor fs) marks)) ≡ marks
+marks_again : (keep : Bool) (fs : List OperationFields) (marks : List Bool) → AllByRecursion AreListedFields fs → length marks ≡ length fs
+    → marks_from keep false (lines_of (marked_text fs marks)) ≡ marks
 unfolding marked_text
 marks_again keep [] [] all e =
     ap (marks_from keep false) no_lines ∙ marks_next keep false [] []
@@ -232,32 +232,46 @@ marks_again keep [] [] all e =
 marks_again keep [] (m ∷ ms) all e = absurd (omega arith)
 marks_again keep (f ∷ fs) [] all e = absurd (omega arith)
 marks_again keep (f ∷ fs) (m ∷ ms) all e =
-    marked_first keep m f (marked_text (map OfDescriptor fs) ms) all.0 ∙ ap (λ (bs : List Bool). m ∷ bs) (marks_again keep fs ms all.1 (omega arith))
+    marked_first keep m f (marked_text fs ms) all.0 ∙ ap (λ (bs : List Bool). m ∷ bs) (marks_again keep fs ms all.1 (omega arith))
 
 pub marked_text_spells : MarkedTextSpells
 marked_text_spells keep fs marks all e = (marked_spells fs marks all, marks_again keep fs marks all e)
 
 -- ---- the bytes of a list with barriers are those of no other
 
-first_of : (d : Descriptor) (m : Bool) (rest : List ℕ) → spelling (with_fence m (fields d)) ++ rest ≡ [] → ⊥
-first_of d m rest e = absurd (omega (arith, ap length e, length-append (spelling (with_fence m (fields d))) rest, length-fenced_one (fields d) m d.listed))
+plain_entry : (o : AnyOperation) → get_or (spelling_of o) 4 0 % 2 ≡ 0
+plain_entry o = are_operations.plain (spelling_of o) (are_operations.kept o)
+
+long_fenced : (o : AnyOperation) (m : Bool) → length (fenced m (spelling_of o)) ≡ 64
+long_fenced o m = length-fenced (spelling_of o) (are_operations.whole o) (plain_entry o) m
+
+-- one entry and its mark
+one_entry : (o p : AnyOperation) (m n : Bool) → fenced m (spelling_of o) ≡ fenced n (spelling_of p) → (o ≡ p) × (m ≡ n)
+one_entry o p m n e = (
+  one_spelling o p
+      (sym (unfenced_fenced (spelling_of o) (are_operations.whole o) (plain_entry o) m) ∙ ap unfenced e ∙ unfenced_fenced (spelling_of p) (are_operations.whole p) (plain_entry p) n),
+  sym (fenced_is (spelling_of o) (are_operations.whole o) (plain_entry o) m) ∙ ap is_fenced e ∙ fenced_is (spelling_of p) (are_operations.whole p) (plain_entry p) n,
+)
+
+first_of : (o : AnyOperation) (m : Bool) (rest : List ℕ) → fenced m (spelling_of o) ++ rest ≡ [] → ⊥
+first_of o m rest e = absurd (omega (arith, ap length e, length-append (fenced m (spelling_of o)) rest, long_fenced o m))
 
 pub one_marked_spelling : OneMarkedSpelling
-unfolding marked_spelling
+unfolding fenced_entries
 one_marked_spelling [] [] [] [] a b e = (refl, refl)
 one_marked_spelling [] [] (m ∷ ms) others a b e = absurd (omega arith)
 one_marked_spelling [] [] [] (n ∷ ns) a b e = absurd (omega arith)
-one_marked_spelling [] (x ∷ xs) marks others a b e = absurd (first_of x (get_or others 0 false) (marked_spelling (map fields xs) (drop 1 others)) (sym e))
-one_marked_spelling (d ∷ ds) [] marks others a b e = absurd (first_of d (get_or marks 0 false) (marked_spelling (map fields ds) (drop 1 marks)) e)
-one_marked_spelling (d ∷ ds) (x ∷ xs) [] others a b e = absurd (omega arith)
-one_marked_spelling (d ∷ ds) (x ∷ xs) (m ∷ ms) [] a b e = absurd (omega arith)
-one_marked_spelling (d ∷ ds) (x ∷ xs) (m ∷ ms) (n ∷ ns) a b e =
-    let long = length-fenced_one (fields d) m d.listed ∙ sym (length-fenced_one (fields x) n x.listed) in
-    let parts = front (spelling (with_fence m (fields d))) (marked_spelling (map fields ds) ms) (spelling (with_fence n (fields x))) (marked_spelling (map fields xs) ns) long e in
-    let first = one_fenced d x m n parts.0 in
-    let rest = one_marked_spelling ds xs ms ns (omega arith) (omega arith) parts.1 in
-    let mark : m ≡ n = first.0 in
-    let operation : d ≡ x = first.1 in
-    let operations : ds ≡ xs = rest.0 in
-    let marks : ms ≡ ns = rest.1 in
-    ((λ i. operation i ∷ operations i), (λ i. mark i ∷ marks i))
+one_marked_spelling [] (p ∷ ps) marks others a b e = absurd (first_of p (get_or others 0 false) (fenced_entries spelling_of ps (drop 1 others)) (sym e))
+one_marked_spelling (o ∷ os) [] marks others a b e = absurd (first_of o (get_or marks 0 false) (fenced_entries spelling_of os (drop 1 marks)) e)
+one_marked_spelling (o ∷ os) (p ∷ ps) [] others a b e = absurd (omega arith)
+one_marked_spelling (o ∷ os) (p ∷ ps) (m ∷ ms) [] a b e = absurd (omega arith)
+one_marked_spelling (o ∷ os) (p ∷ ps) (m ∷ ms) (n ∷ ns) a b e =
+    let parts = front (fenced m (spelling_of o)) (fenced_entries spelling_of os ms) (fenced n (spelling_of p)) (fenced_entries spelling_of ps ns)
+    (long_fenced o m ∙ sym (long_fenced p n)) e in
+    let here = one_entry o p m n parts.0 in
+    let later = one_marked_spelling os ps ms ns (omega arith) (omega arith) parts.1 in
+    let same : o ≡ p = here.0 in
+    let marks : m ≡ n = here.1 in
+    let others : os ≡ ps = later.0 in
+    let rest : ms ≡ ns = later.1 in
+    (λ i. same i ∷ others i, λ i. marks i ∷ rest i)

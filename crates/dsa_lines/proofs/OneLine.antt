@@ -1,93 +1,34 @@
--- The fields that a line spells fit their places, so no others have their bytes; and a line has no newline.
-use Rattle.std.proofs.Common.{◌≡◌, ◌≢◌, ℕ, zero, suc, ◌+◌, ◌^◌, ◌<◌, ◌≤◌, Bool, true, false, cond, Option, List, [], ◌∷◌, ◌-◌, length, take, Some, None, refl, sym, ap, subst, ◌∙◌, arith}
-use Rattle.std.specs.Prelude.{Result, Ok, Err, is_some, option_and_then, codes, bit_and, bit_or, nat_le, ◌==◌}
+-- The fields that a line spells fit their places, so no others have their bytes; and a line has neither a fence nor a newline.
+use Rattle.std.proofs.Common.{◌≡◌, ◌≢◌, ℕ, zero, suc, ◌%◌, ◌^◌, ◌<◌, ◌≤◌, Bool, true, false, cond, Option, List, [], ◌∷◌, ◌-◌, length, take, Some, None, refl, sym, ap, subst, ◌∙◌, arith}
+use Rattle.std.specs.Prelude.{Result, Ok, Err, is_some, option_and_then, codes, bit_and, nat_le, ◌==◌}
 use Rattle.std.specs.List.{AllByRecursion, AllPass}
 use Rattle.std.specs.Str.{bytes_eq}
 use Rattle.std.specs.Int.{w64, from_le_bytes}
 use Rattle.std.proofs.lemmas.Bool.{leb-true, eqb-true, eqb-false, ne_eqb}
 use Rattle.std.proofs.lemmas.List.Elements.{All-head}
-use Rattle.std.proofs.lemmas.Nat.{or_lt}
 use Rattle.std.proofs.lemmas.Option.{same_Some, cond_some}
 use Rattle.hex.specs.Hex.{IsBytes, decode_sized, is_hex_digit}
 use Rattle.hex.specs.declared.error.FromHexError.{FromHexError}
 use Rattle.hex.proofs.HexLemmas.{decode_of-even, decode_pairs-ok, decode_sized-ok, decode_sized-twice}
-use Rattle.dsa_descriptor.specs.declared.descriptor.Descriptor.{Descriptor}
-use Rattle.dsa_descriptor.specs.declared.op.Op.{Op}
-use Rattle.dsa_descriptor.specs.Fields.{Fields}
-use Rattle.dsa_descriptor.specs.Descriptors.{fields}
-use Rattle.dsa_descriptor.specs.Profile.{FieldsFit, IsListed, required_flags}
-use Rattle.dsa_descriptor.specs.Operands.{code_of}
-use Rattle.dsa_descriptor.specs.Places.{op_at as op_of_bytes}
-use Rattle.dsa_descriptor.specs.Spelling.{owner_word, spelling}
-use Rattle.dsa_descriptor.proofs.Back.{spelling-spelt, Stands, stands, op_there}
+use Rattle.dsa_descriptor.specs.Profile.{FieldsFit}
+use Rattle.dsa_operations.specs.declared.checksum_op.Seed.{Seed}
+use Rattle.dsa_operations.specs.declared.operation.Operation.{Operation}
+use Rattle.dsa_operations.specs.OperationFields.{OperationFields, fields_spelling, operation_fields}
+use Rattle.dsa_operations.specs.Operands.{seed_of}
+use Rattle.dsa_operations.specs.Operations.{spelling_of}
+use Rattle.dsa_operations.specs.Profile.{SeedFits}
+use Rattle.dsa_operations.specs.Profile as checksums
+use Rattle.dsa_operations.proofs.Same.{AreFitting, flags_of, operation_fits, same_fields}
+use Rattle.dsa_lines.specs.declared.operations.LineOp.{LineOp}
+use Rattle.dsa_lines.specs.declared.operations.LineOp.TheVariants as line_op
 use Rattle.dsa_lines.specs.declared.options.Options.{Options}
 use Rattle.dsa_lines.specs.Words.{Word, is_blank, is_in_word, goes_on, with_front, words_in, words_of}
 use Rattle.dsa_lines.specs.Numbers.{number_of, numeral_after, pattern_of, pattern_with, scaled, last_byte, before_last, size_of}
-use Rattle.dsa_lines.specs.Options.{no_options, or_zero, flags_with, carried_mask, check_mask}
+use Rattle.dsa_lines.specs.Options.{no_options, or_zero, fields_with, carried_mask}
 use Rattle.dsa_lines.specs.Answers.{Answers}
+use Rattle.dsa_lines.proofs.FlagLemmas.{line_flags_below, line_flags_even, line_tells}
 use Rattle.dsa_lines.proofs.WordLemmas.{both, word_byte}
-use Rattle.dsa_lines.specs.Grammar.{greatest, after, named, number_at, count_at, pattern_at, size_at, move_at, fill_at, expected_at, compare_region_at, compare_pattern_at, compare_other_at, compare_at, delta_at, dualcast_at, op_at, pasid_at, privileged_at, check_at, flags_at, handle_at, option_at, options_at, fields_of, Spells}
-
--- ---- fields that fit their places are known by their bytes
-
-pub record Fit (f : Fields) : Type 0 where
-  pub pasid_fits : f.pasid < 2 ^ 20
-  pub flags_fit : f.flags < 2 ^ 24
-  pub record_at_fits : f.record_at < 2 ^ 64
-  pub size_fits : f.size < 2 ^ 32
-  pub int_handle_fits : f.int_handle < 2 ^ 16
-  pub op_fits : FieldsFit f.op
-
-pub listed_fit : (f : Fields) → IsListed f → Fit f
-listed_fit f listed =
-    record {
-      pasid_fits = listed.pasid_fits;
-      flags_fit = listed.flags_fit;
-      record_at_fits = listed.record_at_fits;
-      size_fits = listed.size_fits;
-      int_handle_fits = listed.int_handle_fits;
-      op_fits = listed.op_fits;
-    }
-
-owner_fits : (pasid : ℕ) (privileged : Bool) → pasid < 2 ^ 20 → pasid + cond privileged (2 ^ 31) 0 < 2 ^ 32
-owner_fits pasid true lt = omega arith
-owner_fits pasid false lt = omega arith
-
--- the parts of the word of the PASID and the privilege
-same_owner : (p q : ℕ) (a b : Bool) → p < 2 ^ 20 → q < 2 ^ 20 → p + cond a (2 ^ 31) 0 ≡ q + cond b (2 ^ 31) 0 → (p ≡ q) × (a ≡ b)
-same_owner p q true true lt mt e = (omega arith, refl)
-same_owner p q true false lt mt e = absurd (omega arith)
-same_owner p q false true lt mt e = absurd (omega arith)
-same_owner p q false false lt mt e = (omega arith, refl)
-
-pub spelling_stands : (f : Fields) → Fit f → Stands (owner_word f) f.flags f.record_at f.size f.int_handle f.op (spelling f)
-spelling_stands f h =
-    rw spelling-spelt (stands (owner_word f) f.flags f.record_at f.size f.int_handle f.op (owner_fits f.pasid f.privileged h.pasid_fits) h.flags_fit h.record_at_fits h.size_fits h.int_handle_fits h.op_fits)
-
-op_spelt : (f : Fields) → Fit f → op_of_bytes (spelling f) ≡ Some f.op
-op_spelt f h = op_there (owner_word f) f.flags f.record_at f.size f.int_handle f.op (spelling f) h.flags_fit (spelling_stands f h)
-
--- fields that fit and have one spelling are equal
-pub one_spelling : (f g : Fields) → Fit f → Fit g → spelling f ≡ spelling g → f ≡ g
-one_spelling f g p q h =
-    let s = spelling_stands f p in
-    let t = subst (λ (bytes : List ℕ). Stands (owner_word g) g.flags g.record_at g.size g.int_handle g.op bytes) (sym h) (spelling_stands g q) in
-    let owner = same_owner f.pasid g.pasid f.privileged g.privileged p.pasid_fits q.pasid_fits (sym s.owner_there ∙ t.owner_there) in
-    let op : f.op ≡ g.op = same_Some f.op g.op (sym (op_spelt f p) ∙ ap op_of_bytes h ∙ op_spelt g q) in
-    let code : code_of f.op ≡ code_of g.op = ap code_of op in
-    let flags : f.flags ≡ g.flags = omega (arith, s.operation_there, t.operation_there, p.flags_fit, q.flags_fit) in
-    let record_at : f.record_at ≡ g.record_at = sym s.record_there ∙ t.record_there in
-    let size : f.size ≡ g.size = sym s.size_there ∙ t.size_there in
-    let int_handle : f.int_handle ≡ g.int_handle = sym s.int_handle_there ∙ t.int_handle_there in
-    λ i. record {
-      pasid = owner.0 i;
-      privileged = owner.1 i;
-      flags = flags i;
-      record_at = record_at i;
-      size = size i;
-      int_handle = int_handle i;
-      op = op i;
-    }
+use Rattle.dsa_lines.specs.Grammar.{greatest, after, named, number_at, count_at, pattern_at, size_at, move_at, fill_at, expected_at, compare_region_at, compare_pattern_at, compare_other_at, compare_at, delta_at, dualcast_at, seed_value_at, seed_by, seed_or_zero, seed_at, crc_at, copy_crc_at, op_at, pasid_at, privileged_at, check_at, flags_at, handle_at, option_at, options_at, fields_of, Spells}
 
 -- ---- what an answer was made of
 
@@ -235,11 +176,16 @@ pattern_fits (w ∷ ws) r e =
 
 -- ---- operations
 
--- the operation and its size fit their places, and if the words that are left have no newline, none of the words has
-abbrev OpFits : List Word → Op × ℕ × List Word → Type 0
-OpFits ws r = FieldsFit r.0 × (r.1 < 2 ^ 32) × (Lined r.2 → Lined ws)
+-- the fields of the operation of a line fit their places
+abbrev LineFits : LineOp → Type 0
+LineFits (line_op.Descriptor op) = FieldsFit op
+LineFits (line_op.Checksum op) = checksums.FieldsFit op
 
-move_fits : (ws : List Word) (r : Op × ℕ × List Word) → move_at ws ≡ Some r → OpFits ws r
+-- so does its size, and if the words that are left have no newline, none of the words has
+abbrev OpFits : List Word → LineOp × ℕ × List Word → Type 0
+OpFits ws r = LineFits r.0 × (r.1 < 2 ^ 32) × (Lined r.2 → Lined ws)
+
+move_fits : (ws : List Word) (r : LineOp × ℕ × List Word) → move_at ws ≡ Some r → OpFits ws r
 unfolding move_at
 move_fits ws r e =
     let src = bound (number_at (greatest 64) ws) _ r e in
@@ -258,7 +204,7 @@ move_fits ws r e =
           after_lined (codes ",") dst.0.1 comma.0 refl comma.1 (sized.1 h)))),
     )
 
-fill_fits : (ws : List Word) (r : Op × ℕ × List Word) → fill_at ws ≡ Some r → OpFits ws r
+fill_fits : (ws : List Word) (r : LineOp × ℕ × List Word) → fill_at ws ≡ Some r → OpFits ws r
 unfolding fill_at
 fill_fits ws r e =
     let dst = bound (number_at (greatest 64) ws) _ r e in
@@ -297,7 +243,7 @@ expected_fits ws r e =
           named_lined (codes "expect") size.0.1 expect.0 refl expect.1 (number_lined 1 expect.0 bit.0 bit.1 h))),
     )
 
-region_fits : (src : ℕ) (ws : List Word) (r : Op × ℕ × List Word) → src < 2 ^ 64 → compare_region_at src ws ≡ Some r → OpFits ws r
+region_fits : (src : ℕ) (ws : List Word) (r : LineOp × ℕ × List Word) → src < 2 ^ 64 → compare_region_at src ws ≡ Some r → OpFits ws r
 unfolding compare_region_at
 region_fits src ws r lt e =
     let src2 = bound (number_at (greatest 64) ws) _ r e in
@@ -305,7 +251,7 @@ region_fits src ws r lt e =
     let fits = expected_fits src2.0.1 expected.0 expected.1 in
     subst (OpFits ws) (same_Some _ r expected.2) ((lt, address_fits ws src2.0 src2.1, fits.1), fits.0, λ h. number_lined (greatest 64) ws src2.0 src2.1 (fits.2 h))
 
-compared_fits : (src : ℕ) (ws : List Word) (r : Op × ℕ × List Word) → src < 2 ^ 64 → compare_pattern_at src ws ≡ Some r → OpFits ws r
+compared_fits : (src : ℕ) (ws : List Word) (r : LineOp × ℕ × List Word) → src < 2 ^ 64 → compare_pattern_at src ws ≡ Some r → OpFits ws r
 unfolding compare_pattern_at
 compared_fits src ws r lt e =
     let pattern = bound (pattern_at ws) _ r e in
@@ -314,13 +260,13 @@ compared_fits src ws r lt e =
     let fits = expected_fits pattern.0.1 expected.0 expected.1 in
     subst (OpFits ws) (same_Some _ r expected.2) ((lt, read.0, fits.1), fits.0, λ h. read.1 (fits.2 h))
 
-other_fits : (src : ℕ) (ws : List Word) (rest : Option (List Word)) (r : Op × ℕ × List Word) → src < 2 ^ 64 → after (codes "pattern") ws ≡ rest → compare_other_at src ws rest ≡ Some r → OpFits ws r
+other_fits : (src : ℕ) (ws : List Word) (rest : Option (List Word)) (r : LineOp × ℕ × List Word) → src < 2 ^ 64 → after (codes "pattern") ws ≡ rest → compare_other_at src ws rest ≡ Some r → OpFits ws r
 other_fits src ws None r lt word e = region_fits src ws r lt e
 other_fits src ws (Some rest) r lt word e =
     let fits = compared_fits src rest r lt e in
     (fits.0, fits.1, λ h. after_lined (codes "pattern") ws rest refl word (fits.2 h))
 
-compare_fits : (ws : List Word) (r : Op × ℕ × List Word) → compare_at ws ≡ Some r → OpFits ws r
+compare_fits : (ws : List Word) (r : LineOp × ℕ × List Word) → compare_at ws ≡ Some r → OpFits ws r
 unfolding compare_at
 compare_fits ws r e =
     let src = bound (number_at (greatest 64) ws) _ r e in
@@ -328,7 +274,7 @@ compare_fits ws r e =
     let fits = other_fits src.0.0 other.0 (after (codes "pattern") other.0) r (address_fits ws src.0 src.1) refl other.2 in
     (fits.0, fits.1, λ h. number_lined (greatest 64) ws src.0 src.1 (after_lined (codes "with") src.0.1 other.0 refl other.1 (fits.2 h)))
 
-delta_fits : (ws : List Word) (r : Op × ℕ × List Word) → delta_at ws ≡ Some r → OpFits ws r
+delta_fits : (ws : List Word) (r : LineOp × ℕ × List Word) → delta_at ws ≡ Some r → OpFits ws r
 unfolding delta_at
 delta_fits ws r e =
     let delta = bound (number_at (greatest 64) ws) _ r e in
@@ -352,7 +298,7 @@ delta_fits ws r e =
           after_lined (codes ",") dst.0.1 second.0 refl second.1 (sized.1 h)))))),
     )
 
-dualcast_fits : (ws : List Word) (r : Op × ℕ × List Word) → dualcast_at ws ≡ Some r → OpFits ws r
+dualcast_fits : (ws : List Word) (r : LineOp × ℕ × List Word) → dualcast_at ws ≡ Some r → OpFits ws r
 unfolding dualcast_at
 dualcast_fits ws r e =
     let src = bound (number_at (greatest 64) ws) _ r e in
@@ -375,11 +321,76 @@ dualcast_fits ws r e =
           after_lined (codes ",") dst2.0.1 comma.0 refl comma.1 (sized.1 h)))))),
     )
 
+-- a seed fits its place
+abbrev SeedRead : List Word → Seed × List Word → Type 0
+SeedRead ws r = SeedFits r.0 × (Lined r.1 → Lined ws)
+
+value_fits : (ws : List Word) (r : Seed × List Word) → seed_value_at ws ≡ Some r → SeedRead ws r
+value_fits ws r e =
+    let n = bound (number_at (greatest 32) ws) _ r e in
+    let fits = number_fits (greatest 32) ws n.0 n.1 in
+    let small : n.0.0 < 2 ^ 32 = omega arith in
+    subst (SeedRead ws) (same_Some _ r n.2) (small, λ h. number_lined (greatest 32) ws n.0 n.1 h)
+
+seed_by_fits : (ws : List Word) (rest : Option (List Word)) (r : Seed × List Word) → after (codes "at") ws ≡ rest → seed_by ws rest ≡ Some r → SeedRead ws r
+seed_by_fits ws None r word e = value_fits ws r e
+seed_by_fits ws (Some rest) r word e =
+    let n = bound (number_at (greatest 64) rest) _ r e in
+    subst (SeedRead ws) (same_Some _ r n.2) (address_fits rest n.0 n.1, λ h. after_lined (codes "at") ws rest refl word (number_lined (greatest 64) rest n.0 n.1 h))
+
+seed_or_zero_fits : (ws : List Word) (rest : Option (List Word)) (r : Seed × List Word) → named (codes "seed") ws ≡ rest → seed_or_zero ws rest ≡ Some r → SeedRead ws r
+seed_or_zero_fits ws None r word e =
+    let none : 0 < 2 ^ 32 = omega arith in
+    subst (SeedRead ws) (same_Some _ r e) (none, λ h. h)
+seed_or_zero_fits ws (Some rest) r word e =
+    let fits = seed_by_fits rest (after (codes "at") rest) r refl e in
+    (fits.0, λ h. named_lined (codes "seed") ws rest refl word (fits.1 h))
+
+seed_fits : (ws : List Word) (r : Seed × List Word) → seed_at ws ≡ Some r → SeedRead ws r
+unfolding seed_at
+seed_fits ws r e = seed_or_zero_fits ws (named (codes "seed") ws) r refl e
+
+crc_fits : (ws : List Word) (r : LineOp × ℕ × List Word) → crc_at ws ≡ Some r → OpFits ws r
+unfolding crc_at
+crc_fits ws r e =
+    let src = bound (number_at (greatest 64) ws) _ r e in
+    let comma = bound (after (codes ",") src.0.1) _ r src.2 in
+    let size = bound (size_at comma.0) _ r comma.2 in
+    let sized = size_fits comma.0 size.0 size.1 in
+    let seed = bound (seed_at size.0.1) _ r size.2 in
+    let seeded = seed_fits size.0.1 seed.0 seed.1 in
+    subst (OpFits ws) (same_Some _ r seed.2) (
+      (address_fits ws src.0 src.1, seeded.0),
+      sized.0,
+      λ h. number_lined (greatest 64) ws src.0 src.1 (after_lined (codes ",") src.0.1 comma.0 refl comma.1 (sized.1 (seeded.1 h))),
+    )
+
+copy_crc_fits : (ws : List Word) (r : LineOp × ℕ × List Word) → copy_crc_at ws ≡ Some r → OpFits ws r
+unfolding copy_crc_at
+copy_crc_fits ws r e =
+    let src = bound (number_at (greatest 64) ws) _ r e in
+    let to = bound (after (codes "->") src.0.1) _ r src.2 in
+    let dst = bound (number_at (greatest 64) to.0) _ r to.2 in
+    let comma = bound (after (codes ",") dst.0.1) _ r dst.2 in
+    let size = bound (size_at comma.0) _ r comma.2 in
+    let sized = size_fits comma.0 size.0 size.1 in
+    let seed = bound (seed_at size.0.1) _ r size.2 in
+    let seeded = seed_fits size.0.1 seed.0 seed.1 in
+    subst (OpFits ws) (same_Some _ r seed.2) (
+      (address_fits ws src.0 src.1, address_fits to.0 dst.0 dst.1, seeded.0),
+      sized.0,
+      λ h.
+          number_lined (greatest 64) ws src.0 src.1 (
+          after_lined (codes "->") src.0.1 to.0 refl to.1 (
+          number_lined (greatest 64) to.0 dst.0 dst.1 (
+          after_lined (codes ",") dst.0.1 comma.0 refl comma.1 (sized.1 (seeded.1 h))))),
+    )
+
 -- the same after the operation's name
-op_named : (w name : Word) (ws : List Word) (r : Op × ℕ × List Word) → begins_newline name ≡ false → OpFits ws r → bytes_eq w name ≡ true → OpFits (w ∷ ws) r
+op_named : (w name : Word) (ws : List Word) (r : LineOp × ℕ × List Word) → begins_newline name ≡ false → OpFits ws r → bytes_eq w name ≡ true → OpFits (w ∷ ws) r
 op_named w name ws r plain fits e = (fits.0, fits.1, λ h. (same_lined w name e plain, fits.2 h))
 
-op_fits : (ws : List Word) (r : Op × ℕ × List Word) → op_at ws ≡ Some r → OpFits ws r
+op_fits : (ws : List Word) (r : LineOp × ℕ × List Word) → op_at ws ≡ Some r → OpFits ws r
 unfolding op_at
 op_fits [] r e = absurd cc
 op_fits (w ∷ ws) r e =
@@ -387,12 +398,14 @@ op_fits (w ∷ ws) r e =
     one_of (bytes_eq w (codes "fill")) _ _ r e (λ b e. op_named w (codes "fill") ws r refl (fill_fits ws r e) b) (λ e.
     one_of (bytes_eq w (codes "compare")) _ _ r e (λ b e. op_named w (codes "compare") ws r refl (compare_fits ws r e) b) (λ e.
     one_of (bytes_eq w (codes "delta")) _ _ r e (λ b e. op_named w (codes "delta") ws r refl (delta_fits ws r e) b) (λ e.
-    one_of (bytes_eq w (codes "dualcast")) _ _ r e (λ b e. op_named w (codes "dualcast") ws r refl (dualcast_fits ws r e) b) (λ (none : None ≡ Some r). absurd cc)))))
+    one_of (bytes_eq w (codes "dualcast")) _ _ r e (λ b e. op_named w (codes "dualcast") ws r refl (dualcast_fits ws r e) b) (λ e.
+    one_of (bytes_eq w (codes "crc")) _ _ r e (λ b e. op_named w (codes "crc") ws r refl (crc_fits ws r e) b) (λ e.
+    one_of (bytes_eq w (codes "copy_crc")) _ _ r e (λ b e. op_named w (codes "copy_crc") ws r refl (copy_crc_fits ws r e) b) (λ (none : None ≡ Some r). absurd cc)))))))
 
 -- ---- options
 
 abbrev pub OptionsFit : Options → Type 0
-OptionsFit o = (or_zero o.pasid < 2 ^ 20) × (or_zero o.flags < 2 ^ 24) × (or_zero o.handle < 2 ^ 16)
+OptionsFit o = (or_zero o.pasid < 2 ^ 20) × (bit_and (or_zero o.flags) carried_mask ≡ or_zero o.flags) × (or_zero o.handle < 2 ^ 16)
 
 abbrev NextFits : List Word → Options × List Word → Type 0
 NextFits ws r = OptionsFit r.0 × (Lined r.1 → Lined ws)
@@ -419,10 +432,8 @@ unfolding flags_at
 flags_option o ws r fit e =
     let free = unless (is_some o.flags) _ r e in
     let n = bound (number_at (greatest 24) ws) _ r free in
-    let fits = number_fits (greatest 24) ws n.0 n.1 in
-    let small : n.0.0 < 2 ^ 24 = omega arith in
     let h = cond_some (bit_and n.0.0 carried_mask == n.0.0) _ r n.2 in
-    subst (NextFits ws) h.1 ((fit.0, small, fit.2), λ l. number_lined (greatest 24) ws n.0 n.1 l)
+    subst (NextFits ws) h.1 ((fit.0, eqb-true _ _ h.0, fit.2), λ l. number_lined (greatest 24) ws n.0 n.1 l)
 
 handle_option : (o : Options) (ws : List Word) (r : Options × List Word) → OptionsFit o → handle_at o ws ≡ Some r → NextFits ws r
 unfolding handle_at
@@ -458,14 +469,39 @@ options_fit (suc most) o (w ∷ ws) r fit e =
     let rest = options_fit most next.0.0 next.0.1 r fits.0 next.2 in
     (rest.0, after_lined (codes ",") (w ∷ ws) later.0 refl later.1 (fits.1 rest.1))
 
-pub flags_small : (carried : ℕ) (check : Bool) → carried < 2 ^ 24 → flags_with carried check < 2 ^ 24
-flags_small carried true lt = or_lt 24 (bit_or required_flags carried) check_mask (or_lt 24 required_flags carried (omega arith) lt) (omega arith)
-flags_small carried false lt = or_lt 24 (bit_or required_flags carried) 0 (or_lt 24 required_flags carried (omega arith) lt) (omega arith)
-
 -- ---- a line
 
--- the fields that words spell fit their places, and none of these words is a newline
-read_words : (words : List Word) (f : Fields) → fields_of words ≡ Some f → Fit f × Lined words
+-- so do the fields of a line with these options
+fields_fit : (op : LineOp) (size record_at : ℕ) (o : Options) → LineFits op → size < 2 ^ 32 → record_at < 2 ^ 64 → OptionsFit o → AreFitting (fields_with op size record_at o)
+fields_fit (line_op.Descriptor op) size record_at o fits sized recorded options = record {
+  pasid_fits = options.0;
+  flags_fit = line_flags_below (line_op.Descriptor op) (or_zero o.flags) o.check options.1;
+  record_at_fits = recorded;
+  size_fits = sized;
+  int_handle_fits = options.2;
+  op_fits = fits;
+}
+fields_fit (line_op.Checksum op) size record_at o fits sized recorded options = record {
+  pasid_fits = options.0;
+  flags_fit = line_flags_below (line_op.Checksum op) (or_zero o.flags) o.check options.1;
+  record_at_fits = recorded;
+  size_fits = sized;
+  int_handle_fits = options.2;
+  op_fits = fits;
+  seed_told = line_tells (seed_of op) (or_zero o.flags) o.check options.1;
+}
+
+-- and they have no fence
+fields_plain : (op : LineOp) (size record_at : ℕ) (o : Options) → OptionsFit o → flags_of (fields_with op size record_at o) % 2 ≡ 0
+fields_plain (line_op.Descriptor op) size record_at o options = line_flags_even (line_op.Descriptor op) (or_zero o.flags) o.check options.1
+fields_plain (line_op.Checksum op) size record_at o options = line_flags_even (line_op.Checksum op) (or_zero o.flags) o.check options.1
+
+-- what a line spells
+abbrev pub AreOfLine : OperationFields → Type 0
+AreOfLine f = AreFitting f × (flags_of f % 2 ≡ 0)
+
+-- what words spell fits its places and has no fence, and none of these words is a newline
+read_words : (words : List Word) (f : OperationFields) → fields_of words ≡ Some f → AreOfLine f × Lined words
 unfolding fields_of
 read_words words f e =
     let op = bound (op_at words) _ f e in
@@ -473,35 +509,30 @@ read_words words f e =
     let record_at = bound (number_at (greatest 64) later.0) _ f later.2 in
     let options = bound (options_at 5 no_options record_at.0.1) _ f record_at.2 in
     let o = op_fits words op.0 op.1 in
-    let p = options_fit 5 no_options record_at.0.1 options.0 (omega arith, omega arith, omega arith) options.1 in
-    let flags = flags_small (or_zero options.0.flags) options.0.check p.0.1 in
-    let fit = subst Fit (same_Some _ f options.2) (record {
-      pasid_fits = p.0.0;
-      flags_fit = omega arith;
-      record_at_fits = address_fits later.0 record_at.0 record_at.1;
-      size_fits = o.1;
-      int_handle_fits = p.0.2;
-      op_fits = o.0;
-    }) in (
-      fit,
+    let p = options_fit 5 no_options record_at.0.1 options.0 (omega arith, refl, omega arith) options.1 in (
+      subst AreOfLine (same_Some _ f options.2)
+          (fields_fit op.0.0 op.0.1 record_at.0.0 options.0 o.0 o.1 (address_fits later.0 record_at.0 record_at.1) p.0, fields_plain op.0.0 op.0.1 record_at.0.0 options.0 p.0),
       o.2 (named_lined (codes "record") op.0.2 later.0 refl later.1 (number_lined (greatest 64) later.0 record_at.0 record_at.1 p.1)),
     )
 
-pub words_fit : (words : List Word) (f : Fields) → fields_of words ≡ Some f → Fit f
-words_fit words f e = (read_words words f e).0
+pub words_spelt : (words : List Word) (f : OperationFields) → fields_of words ≡ Some f → AreOfLine f
+words_spelt words f e = (read_words words f e).0
+
+words_fit : (words : List Word) (f : OperationFields) → fields_of words ≡ Some f → AreFitting f
+words_fit words f e = (words_spelt words f e).0
 
 -- lines that spell fields of the same bytes spell the same fields
-pub same_bytes : (text other : List ℕ) (f g : Fields) → Spells text f → Spells other g → spelling f ≡ spelling g → f ≡ g
-same_bytes text other f g e p same = one_spelling f g (words_fit (words_of text) f e) (words_fit (words_of other) g p) same
+pub same_bytes : (text other : List ℕ) (f g : OperationFields) → Spells text f → Spells other g → fields_spelling f ≡ fields_spelling g → f ≡ g
+same_bytes text other f g e p same = same_fields f g (words_fit (words_of text) f e) (words_fit (words_of other) g p) same
 
--- fields that a line spells are those of the descriptor with their bytes
-pub spelled_descriptor : (text : List ℕ) (f : Fields) (d : Descriptor) → Spells text f → spelling f ≡ spelling (fields d) → f ≡ fields d
-spelled_descriptor text f d e same = one_spelling f (fields d) (words_fit (words_of text) f e) (listed_fit (fields d) d.listed) same
+-- fields that a line spells are those of the operation with their bytes
+pub spelled_operation : (text : List ℕ) (f : OperationFields) (o : Operation) → Spells text f → fields_spelling f ≡ spelling_of o → f ≡ operation_fields o
+spelled_operation text f o e same = same_fields f (operation_fields o) (words_fit (words_of text) f e) (operation_fits o) same
 
--- the descriptor that is read from the bytes of a line's fields has these fields
-pub read_fields : (words : List Word) (f : Fields) (bytes : List ℕ) (d : Descriptor) → fields_of words ≡ Some f → bytes ≡ spelling f → bytes ≡ spelling (fields d)
-    → Answers (fields_of words) (Ok d)
-read_fields words f bytes d e spelt found = rw e (one_spelling f (fields d) (words_fit words f e) (listed_fit (fields d) d.listed) (sym spelt ∙ found))
+-- the operation that is read from the bytes of a line's fields has these fields
+pub read_fields : (words : List Word) (f : OperationFields) (bytes : List ℕ) (o : Operation) → fields_of words ≡ Some f → bytes ≡ fields_spelling f → bytes ≡ spelling_of o
+    → Answers (fields_of words) (Ok o)
+read_fields words f bytes o e spelt found = rw e (same_fields f (operation_fields o) (words_fit words f e) (operation_fits o) (sym spelt ∙ found))
 
 -- ---- a text that spells fields has no newline
 
@@ -558,5 +589,5 @@ text_lined false (c ∷ cs) h = (newline_is_not, rest_lined (c == 35) (is_blank 
     newline_is_not : c ≢ 10
     newline_is_not k = newline_first c cs k h
 
-pub spelled_line : (text : List ℕ) (f : Fields) → Spells text f → NoNewline text
+pub spelled_line : (text : List ℕ) (f : OperationFields) → Spells text f → NoNewline text
 spelled_line text f e = text_lined false text (read_words (words_of text) f e).1

@@ -14,6 +14,7 @@ use Rattle.dsa_descriptor.specs.declared.fault.FieldFault.TheVariants.{Opcode, F
 use Rattle.dsa_descriptor.specs.declared.op.Op.{Op}
 use Rattle.dsa_descriptor.specs.declared.op.Op.TheVariants.{Move, Fill, Compare, ComparePattern, ApplyDelta, Dualcast}
 use Rattle.dsa_descriptor.specs.Descriptors.{fields}
+use Rattle.dsa_descriptor.specs.Fields.{Fields}
 use Rattle.dsa_descriptor.specs.Faults.{IsFirstFault, Keeps}
 use Rattle.dsa_descriptor.specs.Lists.{entries}
 use Rattle.dsa_descriptor.specs.Spelling.{spelling}
@@ -24,7 +25,7 @@ use Rattle.dsa_emission.specs.declared.emission_fault.EmissionFault.TheVariants.
 use Rattle.dsa_emission.specs.EmissionFaults.{is_batch_entry}
 use Rattle.dsa_operations.specs.declared.checksum_op.ChecksumOp.{ChecksumOp}
 use Rattle.dsa_operations.specs.declared.checksum_op.ChecksumOp.TheVariants.{Crc, CopyCrc}
-use Rattle.dsa_operations.specs.OperationFields.{OperationFields}
+use Rattle.dsa_operations.specs.OperationFields.{OperationFields, AreListedFields}
 use Rattle.dsa_operations.specs.OperationFields.OperationFields.{OfDescriptor, OfChecksum}
 use Rattle.dsa_lines.specs.declared.fault.EmittedFault.{EmittedFault}
 use Rattle.dsa_lines.specs.declared.fault.EmittedFault.TheVariants.{Memory}
@@ -174,10 +175,18 @@ unfolding line_text
 line_begins (OfDescriptor f) = op_begins f.op f.size _
 line_begins (OfChecksum f) = checksum_begins f.op f.size _
 
+-- listed fields of one line are the same
+pub same_line_fields : (f g : OperationFields) → AreListedFields f → AreListedFields g → line_text f ≡ line_text g → f ≡ g
+same_line_fields f g p q same = same_Some f g (sym (line_spells f p) ∙ ap (λ (t : List ℕ). fields_of (words_of t)) same ∙ line_spells g q)
+
 pub same_line : (d e : Descriptor) → line_text (OfDescriptor (fields d)) ≡ line_text (OfDescriptor (fields e)) → d ≡ e
 same_line d e same =
-    same_descriptor d e (same_Some (fields d) (fields e)
-    (sym (line_spells (fields d) d.listed) ∙ ap (λ (t : List ℕ). fields_of (words_of t)) same ∙ line_spells (fields e) e.listed))
+    let h = same_line_fields (OfDescriptor (fields d)) (OfDescriptor (fields e)) d.listed e.listed same in
+    same_descriptor d e (ap descriptor_of h)
+  where
+    descriptor_of : OperationFields → Fields
+    descriptor_of (OfDescriptor f) = f
+    descriptor_of (OfChecksum f) = fields d
 
 pub other_line : (bytes : List ℕ) (fault : FieldFault) → length bytes ≡ 64 → IsBytes bytes → is_line (text_of (other_words bytes fault)) ≡ true
 other_line bytes fault long are = words_line (other_words bytes fault) (other_words_are bytes fault long are)

@@ -8,9 +8,8 @@ use Rattle.std.proofs.Math.Nat.{mod-lt}
 use Rattle.std.proofs.lemmas.Bool.{ne_eqb}
 use Rattle.dsa_descriptor.specs.declared.descriptor.Descriptor.{Descriptor}
 use Rattle.dsa_descriptor.specs.Descriptors.{fields}
-use Rattle.dsa_descriptor.specs.Fields.{Fields}
 use Rattle.dsa_descriptor.specs.Lists.{entries}
-use Rattle.dsa_descriptor.specs.Profile.{IsListed}
+use Rattle.dsa_operations.specs.OperationFields.{OperationFields, AreListedFields}
 use Rattle.dsa_operations.specs.OperationFields.OperationFields.{OfDescriptor}
 use Rattle.dsa_lines.specs.Words.{Word, goes_on, words_in, words_of}
 use Rattle.dsa_lines.specs.Numbers.{hex}
@@ -33,7 +32,7 @@ use Rattle.dsa_lines.proofs.StagingTexts.{fenced_line, written_line}
 -- ---- lines
 
 -- a line before others
-pub line_before : (line rest : List ℕ) (here more : List Fields) → is_line line ≡ true → line_fields (words_of line) ≡ Some here → all_fields (lines_of rest) ≡ Some more
+pub line_before : (line rest : List ℕ) (here more : List OperationFields) → is_line line ≡ true → line_fields (words_of line) ≡ Some here → all_fields (lines_of rest) ≡ Some more
     → all_fields (lines_of ((line ++ 10 ∷ []) ++ rest)) ≡ Some (here ++ more)
 unfolding all_fields
 line_before line rest here more is e f =
@@ -64,7 +63,7 @@ batch_none c l r a b d = rw (batch_again c l r a b d) refl
 submission_read : (bytes : List ℕ) (s : Submission) → Submits bytes s → IsKnown s → line_fields (words_of (submission_text s)) ≡ Some (lone_fields (s ∷ []))
 submission_read bytes (Batch c l r) p known =
     ap line_fields (batch_read c l r (omega (arith, p.count_fits)) p.list_fits p.record_fits) ∙ batch_none c l r p.count_fits p.list_fits p.record_fits
-submission_read bytes (Lone d) p known = spelt_line (words_of (line_text (OfDescriptor (fields d)))) (fields d) (line_spells (fields d) d.listed)
+submission_read bytes (Lone d) p known = spelt_line (words_of (line_text (OfDescriptor (fields d)))) (OfDescriptor (fields d)) (line_spells (OfDescriptor (fields d)) d.listed)
 submission_read bytes (Other b f) p known = absurd known
 
 lone_more : (s : Submission) (ss : List Submission) → lone_fields (s ∷ []) ++ lone_fields ss ≡ lone_fields (s ∷ ss)
@@ -89,20 +88,20 @@ portal_is_read bytes ss p known = portal_read (entries bytes) ss p.each known
 pub fence_front : (line : List ℕ) → words_of (codes "fence " ++ line) ≡ codes "fence" ∷ words_of line
 fence_front line = word_then 102 (codes "ence") (32 ∷ line) refl refl refl ∙ ap (λ (ws : List Word). codes "fence" ∷ ws) (blank_then line)
 
-fence_read : (words : List Word) (f : Fields) → fields_of words ≡ Some f → line_fields (codes "fence" ∷ words) ≡ Some (f ∷ [])
+fence_read : (words : List Word) (f : OperationFields) → fields_of words ≡ Some f → line_fields (codes "fence" ∷ words) ≡ Some (f ∷ [])
 unfolding line_fields
 fence_read words f e = rw e refl
 
-piece_read : (fence : Bool) (d : Descriptor) → line_fields (words_of (cond fence (codes "fence ") [] ++ line_text (OfDescriptor (fields d)))) ≡ Some (fields d ∷ [])
-piece_read true d = ap line_fields (fence_front (line_text (OfDescriptor (fields d)))) ∙ fence_read (words_of (line_text (OfDescriptor (fields d)))) (fields d) (line_spells (fields d) d.listed)
-piece_read false d = spelt_line (words_of (line_text (OfDescriptor (fields d)))) (fields d) (line_spells (fields d) d.listed)
+piece_read : (fence : Bool) (d : Descriptor) → line_fields (words_of (cond fence (codes "fence ") [] ++ line_text (OfDescriptor (fields d)))) ≡ Some (OfDescriptor (fields d) ∷ [])
+piece_read true d = ap line_fields (fence_front (line_text (OfDescriptor (fields d)))) ∙ fence_read (words_of (line_text (OfDescriptor (fields d)))) (OfDescriptor (fields d)) (line_spells (OfDescriptor (fields d)) d.listed)
+piece_read false d = spelt_line (words_of (line_text (OfDescriptor (fields d)))) (OfDescriptor (fields d)) (line_spells (OfDescriptor (fields d)) d.listed)
 
-pieces_read : (ps : List StagedPiece) (rest : List ℕ) → all_fields (lines_of rest) ≡ Some [] → all_fields (lines_of (entries_text (map Piece ps) ++ rest)) ≡ Some (map (λ p. fields p.piece) ps)
+pieces_read : (ps : List StagedPiece) (rest : List ℕ) → all_fields (lines_of rest) ≡ Some [] → all_fields (lines_of (entries_text (map Piece ps) ++ rest)) ≡ Some (map (λ p. OfDescriptor (fields p.piece)) ps)
 unfolding entries_text
 pieces_read [] rest e = e
 pieces_read (p ∷ ps) rest e =
     ap (λ (t : List ℕ). all_fields (lines_of t)) (append_assoc (piece_text p ++ 10 ∷ []) (entries_text (map Piece ps)) rest)
-    ∙ line_before (piece_text p) (entries_text (map Piece ps) ++ rest) (fields p.piece ∷ []) (map (λ q. fields q.piece) ps) (fenced_line p.fence p.piece) (piece_read p.fence p.piece) (pieces_read ps rest e)
+    ∙ line_before (piece_text p) (entries_text (map Piece ps) ++ rest) (OfDescriptor (fields p.piece) ∷ []) (map (λ q. OfDescriptor (fields q.piece)) ps) (fenced_line p.fence p.piece) (piece_read p.fence p.piece) (pieces_read ps rest e)
 
 -- ---- lines of digits
 
@@ -165,8 +164,8 @@ pub comment_after : (line text : List ℕ) → is_line text ≡ true → words_o
 comment_after line text e = comment_after_in false line text (comment text e)
 
 -- a canonical line with a comment after it spells its fields
-pub commented_read : (f : Fields) (text : List ℕ) → IsListed f → is_line text ≡ true → line_fields (words_of (line_text (OfDescriptor f) ++ (32 ∷ 35 ∷ text))) ≡ Some (f ∷ [])
-commented_read f text listed e = ap line_fields (comment_after (line_text (OfDescriptor f)) text e) ∙ spelt_line (words_of (line_text (OfDescriptor f))) f (line_spells f listed)
+pub commented_read : (f : OperationFields) (text : List ℕ) → AreListedFields f → is_line text ≡ true → line_fields (words_of (line_text f ++ (32 ∷ 35 ∷ text))) ≡ Some (f ∷ [])
+commented_read f text listed e = ap line_fields (comment_after (line_text f) text e) ∙ spelt_line (words_of (line_text f)) f (line_spells f listed)
 
 -- ---- the lines of records
 
@@ -197,7 +196,7 @@ records_read batch address (r ∷ rs) all can =
     ∙ line_before (35 ∷ text) rest [] [] is (comment_read text is) (records_read (batch + 1) (address + 32) rs all.1 can.1)
 
 pub staging_is_read : (at : ℕ) (bytes : List ℕ) (ps : List StagedPiece) (rs : List (List ℕ)) → IsStaging bytes (map Piece ps) rs → AllByRecursion IsPlausible rs
-    → TextSpells (staging_text at (map Piece ps) rs) (map (λ p. fields p.piece) ps)
+    → TextSpells (staging_text at (map Piece ps) rs) (map (λ p. OfDescriptor (fields p.piece)) ps)
 staging_is_read at bytes ps rs h can =
     let first : ℕ = at + 64 * length (map Piece ps) in
     pieces_read ps (records_text 0 first rs) (records_read 0 first rs h.each_record can)

@@ -5,19 +5,17 @@ use Rattle.std.specs.List.{AllByRecursion, AllZip, flat_map}
 use Rattle.std.specs.Str.{bytes_eq}
 use Rattle.dsa_descriptor.specs.declared.descriptor.Descriptor.{Descriptor}
 use Rattle.dsa_descriptor.specs.Descriptors.{fields}
-use Rattle.dsa_descriptor.specs.Fields.{Fields}
 use Rattle.dsa_descriptor.specs.Lists.{entries}
-use Rattle.dsa_descriptor.specs.Profile.{IsListed}
 use Rattle.dsa_descriptor.specs.Spelling.{spelling}
-use Rattle.dsa_descriptor.proofs.Masks.{no_fence}
-use Rattle.dsa_descriptor.specs.Fences.{with_fence}
-use Rattle.dsa_descriptor.proofs.Fenced.{or_one, unfenced_same}
+use Rattle.dsa_descriptor.specs.Fences.{fenced, with_fence}
+use Rattle.dsa_descriptor.proofs.Fenced.{fenced_alike, unfenced_same}
+use Rattle.dsa_operations.specs.OperationFields.{OperationFields, fields_spelling}
 use Rattle.dsa_operations.specs.OperationFields.OperationFields.{OfDescriptor}
 use Rattle.dsa_lines.specs.declared.recording.Recorded.{Recorded}
 use Rattle.dsa_lines.specs.declared.recording.Recorded.TheVariants.{Batch as BatchSaid, Entry as EntrySaid}
 use Rattle.dsa_lines.specs.Words.{Word, words_in, words_of}
 use Rattle.dsa_lines.specs.Grammar.{op_at, fields_of}
-use Rattle.dsa_lines.specs.Recordings.{fenced, recorded_at, line_recorded, all_recorded, recording_bytes, LinesSpell}
+use Rattle.dsa_lines.specs.Recordings.{recorded_at, line_recorded, all_recorded, recording_bytes, LinesSpell}
 use Rattle.dsa_lines.specs.Text.{line_text}
 use Rattle.dsa_lines.specs.Texts.{lines_of}
 use Rattle.dsa_lines.specs.Portals.{Submission, IsKnown, Submits, IsPortal, batch_words, submission_text, portal_text}
@@ -25,9 +23,10 @@ use Rattle.dsa_lines.specs.Portals.Submission.{Batch, Lone, Other}
 use Rattle.dsa_lines.specs.Stagings.{StagedPiece, IsPlausible, IsRecord, IsStaging, staged_bytes, piece_text, entries_text, records_text, staging_text}
 use Rattle.dsa_lines.specs.Stagings.StagedEntry.{Piece}
 use Rattle.dsa_lines.specs.ReadAgain.{said_by}
+use Rattle.dsa_lines.proofs.WordLemmas.{same_word}
 use Rattle.dsa_lines.proofs.LineLemmas.{is_line}
 use Rattle.dsa_lines.proofs.RoundTrip.{line_spells}
-use Rattle.dsa_lines.proofs.TextLemmas.{batch_spells_none, fence_spells_none, line_first, same_word}
+use Rattle.dsa_lines.proofs.TextLemmas.{batch_spells_none, fence_spells_none, line_first}
 use Rattle.dsa_lines.proofs.PortalLemmas.{batch_read, submission_line}
 use Rattle.dsa_lines.proofs.StagingTexts.{fenced_line}
 use Rattle.dsa_lines.proofs.ReadAgain.{batch_again, comment, comment_line, comment_text, fence_front, record_is}
@@ -51,19 +50,19 @@ batch_said : (c l r : ℕ) → c < 2 ^ 32 → l < 2 ^ 64 → r < 2 ^ 64 → line
 unfolding recorded_at
 batch_said c l r a b d = rw (batch_again c l r a b d) refl
 
-said_by_word : (batch fence : Bool) (w : Word) (ws : List Word) (f : Fields) → bytes_eq w (codes "batch") ≡ batch → bytes_eq w (codes "fence") ≡ fence
-    → fields_of (w ∷ ws) ≡ Some f → line_recorded (w ∷ ws) ≡ Some (EntrySaid (spelling f) ∷ [])
+said_by_word : (batch fence : Bool) (w : Word) (ws : List Word) (f : OperationFields) → bytes_eq w (codes "batch") ≡ batch → bytes_eq w (codes "fence") ≡ fence
+    → fields_of (w ∷ ws) ≡ Some f → line_recorded (w ∷ ws) ≡ Some (EntrySaid (fields_spelling f) ∷ [])
 unfolding recorded_at
 said_by_word true fence w ws f p q e = absurd (batch_spells_none w ws f (same_word w (codes "batch") p) e)
 said_by_word false true w ws f p q e = absurd (fence_spells_none w ws f (same_word w (codes "fence") q) e)
 said_by_word false false w ws f p q e = rw (p, q, e) refl
 
-entry_said : (words : List Word) (f : Fields) → fields_of words ≡ Some f → line_recorded words ≡ Some (EntrySaid (spelling f) ∷ [])
+entry_said : (words : List Word) (f : OperationFields) → fields_of words ≡ Some f → line_recorded words ≡ Some (EntrySaid (fields_spelling f) ∷ [])
 unfolding fields_of op_at
 entry_said [] f e = absurd cc
 entry_said (w ∷ ws) f e = said_by_word (bytes_eq w (codes "batch")) (bytes_eq w (codes "fence")) w ws f refl refl e
 
-fence_said : (words : List Word) (f : Fields) → fields_of words ≡ Some f → line_recorded (codes "fence" ∷ words) ≡ Some (EntrySaid (spelling (fenced f)) ∷ [])
+fence_said : (words : List Word) (f : OperationFields) → fields_of words ≡ Some f → line_recorded (codes "fence" ∷ words) ≡ Some (EntrySaid (fenced true (fields_spelling f)) ∷ [])
 unfolding recorded_at
 fence_said words f e = rw e refl
 
@@ -76,7 +75,7 @@ comment_said text e = rw (comment text e) refl
 submission_said : (bytes : List ℕ) (s : Submission) → Submits bytes s → IsKnown s → line_recorded (words_of (submission_text s)) ≡ Some (said_by (s ∷ []))
 submission_said bytes (Batch c l r) p known =
     ap line_recorded (batch_read c l r (omega (arith, p.count_fits)) p.list_fits p.record_fits) ∙ batch_said c l r p.count_fits p.list_fits p.record_fits
-submission_said bytes (Lone d) p known = entry_said (words_of (line_text (OfDescriptor (fields d)))) (fields d) (line_spells (fields d) d.listed)
+submission_said bytes (Lone d) p known = entry_said (words_of (line_text (OfDescriptor (fields d)))) (OfDescriptor (fields d)) (line_spells (OfDescriptor (fields d)) d.listed)
 submission_said bytes (Other b f) p known = absurd known
 
 said_more : (s : Submission) (ss : List Submission) → said_by (s ∷ []) ++ said_by ss ≡ said_by (s ∷ ss)
@@ -98,19 +97,16 @@ portal_is_recorded bytes ss p known = portal_said (entries bytes) ss p.each know
 
 -- ---- a staging area
 
-fence_added : (f : Fields) → IsListed f → spelling (fenced f) ≡ spelling (with_fence true f)
-fence_added f listed = ap (λ (n : ℕ). spelling (record f { flags = n })) (or_one f.flags (no_fence f listed))
-
 abbrev entries_said : List StagedPiece → List Recorded
 entries_said ps = map (λ p. EntrySaid (staged_bytes p)) ps
 
 piece_said : (fence : Bool) (d : Descriptor)
     → line_recorded (words_of (cond fence (codes "fence ") [] ++ line_text (OfDescriptor (fields d)))) ≡ Some (EntrySaid (spelling (with_fence fence (fields d))) ∷ [])
 piece_said true d =
-    ap line_recorded (fence_front (line_text (OfDescriptor (fields d)))) ∙ fence_said (words_of (line_text (OfDescriptor (fields d)))) (fields d) (line_spells (fields d) d.listed)
-    ∙ ap (λ (b : List ℕ). Some (EntrySaid b ∷ [])) (fence_added (fields d) d.listed)
+    ap line_recorded (fence_front (line_text (OfDescriptor (fields d)))) ∙ fence_said (words_of (line_text (OfDescriptor (fields d)))) (OfDescriptor (fields d)) (line_spells (OfDescriptor (fields d)) d.listed)
+    ∙ ap (λ (b : List ℕ). Some (EntrySaid b ∷ [])) (fenced_alike d true)
 piece_said false d =
-    entry_said (words_of (line_text (OfDescriptor (fields d)))) (fields d) (line_spells (fields d) d.listed)
+    entry_said (words_of (line_text (OfDescriptor (fields d)))) (OfDescriptor (fields d)) (line_spells (OfDescriptor (fields d)) d.listed)
     ∙ ap (λ (b : List ℕ). Some (EntrySaid b ∷ [])) (sym (unfenced_same (fields d)))
 
 pieces_said : (ps : List StagedPiece) (rest : List ℕ) → all_recorded (lines_of rest) ≡ Some [] → all_recorded (lines_of (entries_text (map Piece ps) ++ rest)) ≡ Some (entries_said ps)

@@ -5,8 +5,7 @@ use Rattle.std.specs.Prelude.{◌==◌, decimal, codes, bit_and}
 use Rattle.std.proofs.lemmas.Bool.{le-leb, eqb-true, eq-eqb}
 use Rattle.dsa_descriptor.specs.declared.op.Op.{Op}
 use Rattle.dsa_descriptor.specs.declared.op.Op.TheVariants.{Move, Fill, Compare, ComparePattern, ApplyDelta, Dualcast}
-use Rattle.dsa_descriptor.specs.Fields.{Fields}
-use Rattle.dsa_descriptor.specs.Profile.{FieldsFit, HasExpectedBit, IsListed}
+use Rattle.dsa_descriptor.specs.Profile.{FieldsFit, HasExpectedBit}
 use Rattle.dsa_operations.specs.declared.checksum_op.ChecksumOp.{ChecksumOp}
 use Rattle.dsa_operations.specs.declared.checksum_op.ChecksumOp.TheVariants.{Crc, CopyCrc}
 use Rattle.dsa_operations.specs.declared.checksum_op.Seed.{Seed}
@@ -15,15 +14,17 @@ use Rattle.dsa_operations.specs.OperationFields.{OperationFields, AreListedField
 use Rattle.dsa_operations.specs.OperationFields.OperationFields.{OfDescriptor, OfChecksum}
 use Rattle.dsa_operations.specs.Profile.{SeedFits}
 use Rattle.dsa_operations.specs.Profile as checksums
+use Rattle.dsa_lines.specs.declared.operations.LineOp.{LineOp}
+use Rattle.dsa_lines.specs.declared.operations.LineOp.TheVariants as line_op
 use Rattle.dsa_lines.specs.declared.options.Options.{Options}
 use Rattle.dsa_lines.specs.Words.{Word, words_of}
 use Rattle.dsa_lines.specs.Numbers.{hex, pattern_word}
-use Rattle.dsa_lines.specs.Options.{no_options, or_zero, fields_with, flags_with, carried_mask, carried_flags, checks_result}
-use Rattle.dsa_lines.specs.Grammar.{greatest, after, number_at, count_at, pattern_at, size_at, move_at, fill_at, expected_at, compare_region_at, compare_pattern_at, compare_at, delta_at, dualcast_at, op_at, pasid_at, privileged_at, check_at, flags_at, handle_at, option_at, options_at, fields_of, Spells}
-use Rattle.dsa_lines.specs.Text.{op_words, checksum_words, seed_words, operation_words, number_option, name_option, option_words, later_words, fields_later, line_words, tail_text, text_of, line_text, spaced}
+use Rattle.dsa_lines.specs.Options.{no_options, or_zero, fields_by, fields_with, line_flags, carried_mask, carried_flags, checks_result}
+use Rattle.dsa_lines.specs.Grammar.{greatest, after, number_at, count_at, pattern_at, size_at, move_at, fill_at, expected_at, compare_region_at, compare_pattern_at, compare_at, delta_at, dualcast_at, seed_at, crc_at, copy_crc_at, op_at, pasid_at, privileged_at, check_at, flags_at, handle_at, option_at, options_at, fields_of, Spells}
+use Rattle.dsa_lines.specs.Text.{op_words, checksum_words, seed_words, sized_words, operation_words, number_option, name_option, option_words, later_words, fields_later, line_words, tail_text, text_of, line_text, spaced}
 use Rattle.dsa_lines.proofs.WordLemmas.{AreWords, is_word, text_words}
 use Rattle.dsa_lines.proofs.NumberLemmas.{hex_word, decimal_word, hex_again, decimal_again, size_again, spaced_decimal, pattern_is_word, pattern_again, spaced_pattern}
-use Rattle.dsa_lines.proofs.FlagLemmas.{flags_again, carried_again, carried_fit}
+use Rattle.dsa_lines.proofs.FlagLemmas.{flags_again, checksum_flags_again, carried_again, carried_fit}
 
 -- ---- numbers and operations
 
@@ -44,13 +45,13 @@ unfolding size_at
 sized_again n ws lt = rw (count_again n (codes "bytes" ∷ ws) lt) refl
 
 move_again : (src dst size : ℕ) (ws : List Word) → src < 2 ^ 64 → dst < 2 ^ 64 → size < 2 ^ 32
-    → move_at (hex src ∷ codes "->" ∷ hex dst ∷ codes "," ∷ decimal size ∷ codes "bytes" ∷ ws) ≡ Some (Move src dst, size, ws)
+    → move_at (hex src ∷ codes "->" ∷ hex dst ∷ codes "," ∷ decimal size ∷ codes "bytes" ∷ ws) ≡ Some (line_op.Descriptor (Move src dst), size, ws)
 unfolding move_at
 move_again src dst size ws a b c =
     rw (hex_at src (greatest 64) (codes "->" ∷ hex dst ∷ codes "," ∷ decimal size ∷ codes "bytes" ∷ ws) a (omega arith), hex_at dst (greatest 64) (codes "," ∷ decimal size ∷ codes "bytes" ∷ ws) b (omega arith), sized_again size ws c) refl
 
 fill_again : (pattern dst size : ℕ) (ws : List Word) → pattern < 2 ^ 64 → dst < 2 ^ 64 → size < 2 ^ 32
-    → fill_at (hex dst ∷ codes "with" ∷ pattern_word pattern ∷ codes "," ∷ decimal size ∷ codes "bytes" ∷ ws) ≡ Some (Fill pattern dst, size, ws)
+    → fill_at (hex dst ∷ codes "with" ∷ pattern_word pattern ∷ codes "," ∷ decimal size ∷ codes "bytes" ∷ ws) ≡ Some (line_op.Descriptor (Fill pattern dst), size, ws)
 unfolding fill_at
 fill_again pattern dst size ws a b c =
     let w2 : List Word = codes "," ∷ decimal size ∷ codes "bytes" ∷ ws in
@@ -68,31 +69,31 @@ abbrev expected_words : ℕ → ℕ → List Word → List Word
 expected_words expected size ws = codes "," ∷ decimal size ∷ codes "bytes" ∷ codes "," ∷ codes "expect" ∷ decimal expected ∷ ws
 
 region_again : (src src2 expected size : ℕ) (ws : List Word) → src2 < 2 ^ 64 → expected ≤ 1 → size < 2 ^ 32
-    → compare_region_at src (hex src2 ∷ expected_words expected size ws) ≡ Some (Compare src src2 expected, size, ws)
+    → compare_region_at src (hex src2 ∷ expected_words expected size ws) ≡ Some (line_op.Descriptor (Compare src src2 expected), size, ws)
 unfolding compare_region_at
 region_again src src2 expected size ws b e c =
     rw (hex_at src2 (greatest 64) (expected_words expected size ws) b (omega arith), expected_again expected size ws e c) refl
 
 pattern_compared : (src pattern expected size : ℕ) (ws : List Word) → pattern < 2 ^ 64 → expected ≤ 1 → size < 2 ^ 32
-    → compare_pattern_at src (pattern_word pattern ∷ expected_words expected size ws) ≡ Some (ComparePattern src pattern expected, size, ws)
+    → compare_pattern_at src (pattern_word pattern ∷ expected_words expected size ws) ≡ Some (line_op.Descriptor (ComparePattern src pattern expected), size, ws)
 unfolding compare_pattern_at
 pattern_compared src pattern expected size ws b e c =
     rw (pattern_here pattern (expected_words expected size ws) b, expected_again expected size ws e c) refl
 
 compare_again : (src src2 expected size : ℕ) (ws : List Word) → src < 2 ^ 64 → src2 < 2 ^ 64 → expected ≤ 1 → size < 2 ^ 32
-    → compare_at (hex src ∷ codes "with" ∷ hex src2 ∷ expected_words expected size ws) ≡ Some (Compare src src2 expected, size, ws)
+    → compare_at (hex src ∷ codes "with" ∷ hex src2 ∷ expected_words expected size ws) ≡ Some (line_op.Descriptor (Compare src src2 expected), size, ws)
 unfolding compare_at
 compare_again src src2 expected size ws a b e c =
     rw (hex_at src (greatest 64) (codes "with" ∷ hex src2 ∷ expected_words expected size ws) a (omega arith)) (region_again src src2 expected size ws b e c)
 
 compare_pattern_again : (src pattern expected size : ℕ) (ws : List Word) → src < 2 ^ 64 → pattern < 2 ^ 64 → expected ≤ 1 → size < 2 ^ 32
-    → compare_at (hex src ∷ codes "with" ∷ codes "pattern" ∷ pattern_word pattern ∷ expected_words expected size ws) ≡ Some (ComparePattern src pattern expected, size, ws)
+    → compare_at (hex src ∷ codes "with" ∷ codes "pattern" ∷ pattern_word pattern ∷ expected_words expected size ws) ≡ Some (line_op.Descriptor (ComparePattern src pattern expected), size, ws)
 unfolding compare_at
 compare_pattern_again src pattern expected size ws a b e c =
     rw (hex_at src (greatest 64) (codes "with" ∷ codes "pattern" ∷ pattern_word pattern ∷ expected_words expected size ws) a (omega arith)) (pattern_compared src pattern expected size ws b e c)
 
 delta_again : (delta dst record_size size : ℕ) (ws : List Word) → delta < 2 ^ 64 → dst < 2 ^ 64 → record_size < 2 ^ 32 → size < 2 ^ 32
-    → delta_at (hex delta ∷ codes "," ∷ decimal record_size ∷ codes "bytes" ∷ codes "->" ∷ hex dst ∷ codes "," ∷ decimal size ∷ codes "bytes" ∷ ws) ≡ Some (ApplyDelta delta dst record_size, size, ws)
+    → delta_at (hex delta ∷ codes "," ∷ decimal record_size ∷ codes "bytes" ∷ codes "->" ∷ hex dst ∷ codes "," ∷ decimal size ∷ codes "bytes" ∷ ws) ≡ Some (line_op.Descriptor (ApplyDelta delta dst record_size), size, ws)
 unfolding delta_at
 delta_again delta dst record_size size ws a b e c =
     let w2 : List Word = codes "," ∷ decimal size ∷ codes "bytes" ∷ ws in
@@ -100,7 +101,7 @@ delta_again delta dst record_size size ws a b e c =
     rw (hex_at delta (greatest 64) (codes "," ∷ decimal record_size ∷ codes "bytes" ∷ w1) a (omega arith), sized_again record_size w1 e, hex_at dst (greatest 64) w2 b (omega arith), sized_again size ws c) refl
 
 dualcast_again : (src dst dst2 size : ℕ) (ws : List Word) → src < 2 ^ 64 → dst < 2 ^ 64 → dst2 < 2 ^ 64 → size < 2 ^ 32
-    → dualcast_at (hex src ∷ codes "->" ∷ hex dst ∷ codes "and" ∷ hex dst2 ∷ codes "," ∷ decimal size ∷ codes "bytes" ∷ ws) ≡ Some (Dualcast src dst dst2, size, ws)
+    → dualcast_at (hex src ∷ codes "->" ∷ hex dst ∷ codes "and" ∷ hex dst2 ∷ codes "," ∷ decimal size ∷ codes "bytes" ∷ ws) ≡ Some (line_op.Descriptor (Dualcast src dst dst2), size, ws)
 unfolding dualcast_at
 dualcast_again src dst dst2 size ws a b e c =
     let w2 : List Word = codes "," ∷ decimal size ∷ codes "bytes" ∷ ws in
@@ -108,7 +109,7 @@ dualcast_again src dst dst2 size ws a b e c =
     rw (hex_at src (greatest 64) (codes "->" ∷ hex dst ∷ w1) a (omega arith), hex_at dst (greatest 64) w1 b (omega arith), hex_at dst2 (greatest 64) w2 e (omega arith), sized_again size ws c) refl
 
 -- the words of an operation are read
-op_again : (op : Op) (size : ℕ) (ws : List Word) → FieldsFit op → HasExpectedBit op → size < 2 ^ 32 → op_at (op_words op size ++ ws) ≡ Some (op, size, ws)
+op_again : (op : Op) (size : ℕ) (ws : List Word) → FieldsFit op → HasExpectedBit op → size < 2 ^ 32 → op_at (op_words op size ++ ws) ≡ Some (line_op.Descriptor op, size, ws)
 unfolding op_at
 op_again (Move src dst) size ws fit bit s = move_again src dst size ws fit.0 fit.1 s
 op_again (Fill pattern dst) size ws fit bit s = fill_again pattern dst size ws fit.0 fit.1 s
@@ -116,6 +117,32 @@ op_again (Compare src src2 expected) size ws fit bit s = compare_again src src2 
 op_again (ComparePattern src pattern expected) size ws fit bit s = compare_pattern_again src pattern expected size ws fit.0 fit.1 bit s
 op_again (ApplyDelta delta dst record_size) size ws fit bit s = delta_again delta dst record_size size ws fit.0 fit.1 fit.2 s
 op_again (Dualcast src dst dst2) size ws fit bit s = dualcast_again src dst dst2 size ws fit.0 fit.1 fit.2 s
+
+-- a seed that is written is read
+seed_again : (seed : Seed) (ws : List Word) → SeedFits seed → seed_at (codes "," ∷ (seed_words seed ++ ws)) ≡ Some (seed, ws)
+unfolding seed_at
+seed_again (Given value) ws fit = rw (hex_at value (greatest 32) ws (omega (arith, fit)) (omega (arith, fit))) refl
+seed_again (At address) ws fit = rw (hex_at address (greatest 64) ws fit (omega (arith, fit))) refl
+
+crc_again : (src size : ℕ) (seed : Seed) (ws : List Word) → src < 2 ^ 64 → SeedFits seed → size < 2 ^ 32
+    → crc_at (hex src ∷ (sized_words size seed ++ ws)) ≡ Some (line_op.Checksum (Crc src seed), size, ws)
+unfolding crc_at
+crc_again src size seed ws a e c =
+    let w1 : List Word = codes "," ∷ (seed_words seed ++ ws) in
+    rw (hex_at src (greatest 64) (sized_words size seed ++ ws) a (omega arith), sized_again size w1 c, seed_again seed ws e) refl
+
+copy_crc_again : (src dst size : ℕ) (seed : Seed) (ws : List Word) → src < 2 ^ 64 → dst < 2 ^ 64 → SeedFits seed → size < 2 ^ 32
+    → copy_crc_at (hex src ∷ codes "->" ∷ hex dst ∷ (sized_words size seed ++ ws)) ≡ Some (line_op.Checksum (CopyCrc src dst seed), size, ws)
+unfolding copy_crc_at
+copy_crc_again src dst size seed ws a b e c =
+    let w2 : List Word = codes "," ∷ (seed_words seed ++ ws) in
+    let w1 : List Word = sized_words size seed ++ ws in
+    rw (hex_at src (greatest 64) (codes "->" ∷ hex dst ∷ w1) a (omega arith), hex_at dst (greatest 64) w1 b (omega arith), sized_again size w2 c, seed_again seed ws e) refl
+
+checksum_again : (op : ChecksumOp) (size : ℕ) (ws : List Word) → checksums.FieldsFit op → size < 2 ^ 32 → op_at (checksum_words op size ++ ws) ≡ Some (line_op.Checksum op, size, ws)
+unfolding op_at
+checksum_again (Crc src seed) size ws fit s = crc_again src size seed ws fit.0 fit.1 s
+checksum_again (CopyCrc src dst seed) size ws fit s = copy_crc_again src dst size seed ws fit.0 fit.1 fit.2 s
 
 -- ---- options
 
@@ -281,38 +308,50 @@ later_are : (record_at pasid : ℕ) (privileged : Bool) (flags int_handle : ℕ)
     → AreWords (later_words record_at pasid privileged flags int_handle)
 later_are record_at pasid privileged flags int_handle ltr lt lth = (refl, (refl, (hex_word record_at ltr, options_are pasid privileged flags int_handle lt lth)))
 
-abbrev more_words : Fields → List Word
-more_words f = later_words f.record_at f.pasid f.privileged f.flags f.int_handle
+fields_later_are : (f : OperationFields) → AreListedFields f → AreWords (fields_later f)
+fields_later_are (OfDescriptor f) listed = later_are f.record_at f.pasid f.privileged f.flags f.int_handle listed.record_at_fits listed.pasid_fits listed.int_handle_fits
+fields_later_are (OfChecksum f) listed = later_are f.record_at f.pasid f.privileged f.flags f.int_handle listed.record_at_fits listed.pasid_fits listed.int_handle_fits
 
-more_are : (f : Fields) → IsListed f → AreWords (more_words f)
-more_are f listed = later_are f.record_at f.pasid f.privileged f.flags f.int_handle listed.record_at_fits listed.pasid_fits listed.int_handle_fits
+-- what is read of the options of a line
+abbrev opts_of : ℕ → Bool → ℕ → ℕ → Options
+opts_of pasid privileged flags int_handle = opts (some_number pasid) privileged (checks_result flags) (some_number (carried_flags flags)) (some_number int_handle)
 
--- the options give the fields of the line again
-fields_again : (f : Fields) → IsListed f
-    → fields_with f.op f.size f.record_at (opts (some_number f.pasid) f.privileged (checks_result f.flags) (some_number (carried_flags f.flags)) (some_number f.int_handle)) ≡ f
-fields_again f listed =
-    let pasid = number_back (f.pasid == 0) f.pasid refl in
-    let handle = number_back (f.int_handle == 0) f.int_handle refl in
-    let flags : flags_with (or_zero (some_number (carried_flags f.flags))) (checks_result f.flags) ≡ f.flags =
-    ap (λ (n : ℕ). flags_with n (checks_result f.flags)) (number_back (carried_flags f.flags == 0) (carried_flags f.flags) refl)
-    ∙ flags_again f.op f.flags listed.flags_listed listed.flags_fit in
-    λ i. record { pasid = pasid i; privileged = f.privileged; flags = flags i; record_at = f.record_at; size = f.size; int_handle = handle i; op = f.op }
+-- they give the fields of the line again
+fields_again : (op : LineOp) (size record_at pasid : ℕ) (privileged : Bool) (flags int_handle : ℕ) → line_flags op (carried_flags flags) (checks_result flags) ≡ flags
+    → fields_with op size record_at (opts_of pasid privileged flags int_handle) ≡ fields_by op pasid privileged flags record_at size int_handle
+fields_again op size record_at pasid privileged flags int_handle again =
+    let first = number_back (pasid == 0) pasid refl in
+    let last = number_back (int_handle == 0) int_handle refl in
+    let same : line_flags op (or_zero (some_number (carried_flags flags))) (checks_result flags) ≡ flags =
+    ap (λ (n : ℕ). line_flags op n (checks_result flags)) (number_back (carried_flags flags == 0) (carried_flags flags) refl) ∙ again in
+    λ i. fields_by op (first i) privileged (same i) record_at size (last i)
 
-words_spell : (f : Fields) → IsListed f → fields_of (op_words f.op f.size ++ more_words f) ≡ Some f
+words_spell : (f : OperationFields) → AreListedFields f → fields_of (line_words f) ≡ Some f
 unfolding fields_of
-words_spell f listed =
+words_spell (OfDescriptor f) listed =
     rw (
-      op_again f.op f.size (more_words f) listed.op_fits listed.expected_bit listed.size_fits,
+      op_again f.op f.size (fields_later (OfDescriptor f)) listed.op_fits listed.expected_bit listed.size_fits,
       hex_at f.record_at (greatest 64) (option_words f.pasid f.privileged f.flags f.int_handle) listed.record_at_fits (omega (arith, listed.record_at_fits)),
       options_again f.pasid f.privileged f.flags f.int_handle listed.pasid_fits listed.int_handle_fits,
-    ) (ap Some (fields_again f listed))
+    ) (ap Some (fields_again (line_op.Descriptor f.op) f.size f.record_at f.pasid f.privileged f.flags f.int_handle (flags_again f.op f.flags listed.flags_listed listed.flags_fit)))
+words_spell (OfChecksum f) listed =
+    rw (
+      checksum_again f.op f.size (fields_later (OfChecksum f)) listed.op_fits listed.size_fits,
+      hex_at f.record_at (greatest 64) (option_words f.pasid f.privileged f.flags f.int_handle) listed.record_at_fits (omega (arith, listed.record_at_fits)),
+      options_again f.pasid f.privileged f.flags f.int_handle listed.pasid_fits listed.int_handle_fits,
+    ) (ap Some (fields_again (line_op.Checksum f.op) f.size f.record_at f.pasid f.privileged f.flags f.int_handle (checksum_flags_again f.op f.flags listed.flags_listed listed.seed_told listed.flags_fit)))
+
+-- the words of the line
+line_text_words : (f : OperationFields) → AreListedFields f → words_of (line_text f) ≡ line_words f
+unfolding line_text
+line_text_words (OfDescriptor f) listed =
+    op_text_words f.op f.size (fields_later (OfDescriptor f)) listed.op_fits listed.expected_bit listed.size_fits (fields_later_are (OfDescriptor f) listed)
+line_text_words (OfChecksum f) listed =
+    checksum_text_words f.op f.size (fields_later (OfChecksum f)) listed.op_fits listed.size_fits (fields_later_are (OfChecksum f) listed)
 
 -- the canonical line of listed fields spells them
-pub line_spells : (f : Fields) → IsListed f → Spells (line_text (OfDescriptor f)) f
-unfolding line_text
-line_spells f listed =
-    ap fields_of (op_text_words f.op f.size (more_words f) listed.op_fits listed.expected_bit listed.size_fits (more_are f listed))
-    ∙ words_spell f listed
+pub line_spells : (f : OperationFields) → AreListedFields f → Spells (line_text f) f
+line_spells f listed = ap fields_of (line_text_words f listed) ∙ words_spell f listed
 
 -- ---- the line as a text
 
@@ -480,7 +519,6 @@ too_many o (w ∷ ws) some = refl
 
 -- each word of the canonical line is one
 pub line_words_are : (f : OperationFields) → AreListedFields f → AreWords (line_words f)
-line_words_are (OfDescriptor f) listed = op_words_are f.op f.size (more_words f) listed.op_fits listed.expected_bit listed.size_fits (more_are f listed)
-line_words_are (OfChecksum f) listed =
-    checksum_words_are f.op f.size (fields_later (OfChecksum f)) listed.op_fits listed.size_fits
-    (later_are f.record_at f.pasid f.privileged f.flags f.int_handle listed.record_at_fits listed.pasid_fits listed.int_handle_fits)
+line_words_are (OfDescriptor f) listed =
+    op_words_are f.op f.size (fields_later (OfDescriptor f)) listed.op_fits listed.expected_bit listed.size_fits (fields_later_are (OfDescriptor f) listed)
+line_words_are (OfChecksum f) listed = checksum_words_are f.op f.size (fields_later (OfChecksum f)) listed.op_fits listed.size_fits (fields_later_are (OfChecksum f) listed)

@@ -2,22 +2,16 @@
 use Rattle.std.proofs.Common.{◌≡◌, ℕ, suc, ◌+◌, ◌-◌, ◌<◌, ◌≤◌, Bool, true, false, Option, Some, None, List, [], ◌∷◌, ◌++◌, length, get_or, take, drop, refl, sym, ap, ◌∙◌, append_assoc, arith}
 use Rattle.std.specs.Prelude.{codes, map, not, ◌==◌, ◌&&◌}
 use Rattle.std.specs.Str.{bytes_eq}
-use Rattle.std.proofs.lemmas.Bool.{eqb-true}
 use Rattle.std.specs.List.{AllByRecursion}
 use Rattle.std.proofs.Math.Seq.{take-length}
 use Rattle.std.proofs.lemmas.List.{append-nil, length-drop, length-take-le, map-append, take_more}
-use Rattle.dsa_descriptor.specs.declared.descriptor.Descriptor.{Descriptor}
-use Rattle.dsa_descriptor.specs.Descriptors.{fields}
-use Rattle.dsa_descriptor.specs.Fields.{Fields}
-use Rattle.dsa_descriptor.specs.Profile.{IsListed}
-use Rattle.dsa_descriptor.specs.Lists.{list_spelling}
-use Rattle.dsa_descriptor.specs.Spelling.{spelling}
-use Rattle.dsa_operations.specs.OperationFields.{OperationFields}
-use Rattle.dsa_operations.specs.OperationFields.OperationFields.{OfDescriptor}
+use Rattle.dsa_operations.specs.declared.operation.Operation.{Operation}
+use Rattle.dsa_operations.specs.OperationFields.{OperationFields, AreListedFields, all_spelled, fields_spelling, operation_fields}
+use Rattle.dsa_operations.proofs.Same.{listed_of}
 use Rattle.dsa_lines.specs.Words.{Word, words_in, words_of}
 use Rattle.dsa_lines.specs.Grammar.{op_at, fields_of, ◌>>=◌}
 use Rattle.dsa_lines.specs.Text.{line_text}
-use Rattle.dsa_lines.proofs.WordLemmas.{both}
+use Rattle.dsa_lines.proofs.WordLemmas.{both, same_word}
 use Rattle.dsa_lines.proofs.RoundTrip.{line_spells}
 use Rattle.dsa_lines.specs.Texts.{with_byte, lines_of, line_fields, with_fields, all_fields, TextSpells, text_line, list_text, line_len, lines_after}
 use Rattle.dsa_lines.specs.Assembled.{LeavesGrammarAt}
@@ -52,29 +46,20 @@ line_first (c ∷ cs) rest e = line_by (c == 10) c cs rest refl e (line_first cs
 
 -- ---- operations
 
-pub same_word : (w word : Word) → bytes_eq w word ≡ true → w ≡ word
-same_word [] [] e = refl
-same_word [] (d ∷ ds) e = absurd cc
-same_word (c ∷ cs) [] e = absurd cc
-same_word (c ∷ cs) (d ∷ ds) e =
-    let parts = both (c == d) (bytes_eq cs ds) e in
-    let first : c ≡ d = eqb-true c d parts.0 in
-    let rest : cs ≡ ds = same_word cs ds parts.1 in cc
-
 -- an operation does not begin with another word
-pub batch_spells_none : (w : Word) (ws : List Word) (f : Fields) → w ≡ codes "batch" → fields_of (w ∷ ws) ≡ Some f → ⊥
+pub batch_spells_none : (w : Word) (ws : List Word) (f : OperationFields) → w ≡ codes "batch" → fields_of (w ∷ ws) ≡ Some f → ⊥
 unfolding fields_of op_at
 batch_spells_none w ws f same e = let no : None ≡ Some f = rw same at e in absurd cc
 
-pub fence_spells_none : (w : Word) (ws : List Word) (f : Fields) → w ≡ codes "fence" → fields_of (w ∷ ws) ≡ Some f → ⊥
+pub fence_spells_none : (w : Word) (ws : List Word) (f : OperationFields) → w ≡ codes "fence" → fields_of (w ∷ ws) ≡ Some f → ⊥
 unfolding fields_of op_at
 fence_spells_none w ws f same e = let no : None ≡ Some f = rw same at e in absurd cc
 
-pub barrier_spells_none : (w : Word) (ws : List Word) (f : Fields) → w ≡ codes "barrier" → fields_of (w ∷ ws) ≡ Some f → ⊥
+pub barrier_spells_none : (w : Word) (ws : List Word) (f : OperationFields) → w ≡ codes "barrier" → fields_of (w ∷ ws) ≡ Some f → ⊥
 unfolding fields_of op_at
 barrier_spells_none w ws f same e = let no : None ≡ Some f = rw same at e in absurd cc
 
-line_by_word : (batch barrier fence : Bool) (w : Word) (ws : List Word) (f : Fields) → bytes_eq w (codes "batch") ≡ batch → bytes_eq w (codes "barrier") ≡ barrier
+line_by_word : (batch barrier fence : Bool) (w : Word) (ws : List Word) (f : OperationFields) → bytes_eq w (codes "batch") ≡ batch → bytes_eq w (codes "barrier") ≡ barrier
     → bytes_eq w (codes "fence") ≡ fence → fields_of (w ∷ ws) ≡ Some f → line_fields (w ∷ ws) ≡ Some (f ∷ [])
 unfolding line_fields
 line_by_word true barrier fence w ws f p b q e = absurd (batch_spells_none w ws f (same_word w (codes "batch") p) e)
@@ -82,45 +67,45 @@ line_by_word false true fence w ws f p b q e = absurd (barrier_spells_none w ws 
 line_by_word false false true w ws f p b q e = absurd (fence_spells_none w ws f (same_word w (codes "fence") q) e)
 line_by_word false false false w ws f p b q e = rw (p, b, q, e) refl
 
-pub spelt_line : (words : List Word) (f : Fields) → fields_of words ≡ Some f → line_fields words ≡ Some (f ∷ [])
+pub spelt_line : (words : List Word) (f : OperationFields) → fields_of words ≡ Some f → line_fields words ≡ Some (f ∷ [])
 unfolding fields_of op_at
 spelt_line [] f e = absurd cc
 spelt_line (w ∷ ws) f e = line_by_word (bytes_eq w (codes "batch")) (bytes_eq w (codes "barrier")) (bytes_eq w (codes "fence")) w ws f refl refl refl e
 
-next_line : (f : Fields) (fs : List Fields) → IsListed f → all_fields (lines_of (list_text (map OfDescriptor fs))) ≡ Some fs
-    → all_fields (lines_of (line_text (OfDescriptor f) ++ (10 ∷ list_text (map OfDescriptor fs)))) ≡ Some (f ∷ fs)
+next_line : (f : OperationFields) (fs : List OperationFields) → AreListedFields f → all_fields (lines_of (list_text fs)) ≡ Some fs
+    → all_fields (lines_of (line_text f ++ (10 ∷ list_text fs))) ≡ Some (f ∷ fs)
 unfolding all_fields
 next_line f fs listed so_far =
-    ap all_fields (line_first (line_text (OfDescriptor f)) (list_text (map OfDescriptor fs)) (canonical_is_line (OfDescriptor f) listed))
-    ∙ rw (spelt_line (words_of (line_text (OfDescriptor f))) f (line_spells f listed), so_far) refl
+    ap all_fields (line_first (line_text f) (list_text fs) (canonical_is_line f listed))
+    ∙ rw (spelt_line (words_of (line_text f)) f (line_spells f listed), so_far) refl
 
 -- the canonical text of listed fields spells them
-pub text_spells : (fs : List Fields) → AllByRecursion IsListed fs → TextSpells (list_text (map OfDescriptor fs)) fs
+pub text_spells : (fs : List OperationFields) → AllByRecursion AreListedFields fs → TextSpells (list_text fs) fs
 unfolding list_text lines_of all_fields words_in line_fields
 text_spells [] all = refl
 text_spells (f ∷ fs) all =
-    ap (λ (t : List ℕ). all_fields (lines_of t)) (append_assoc (line_text (OfDescriptor f)) (10 ∷ []) (list_text (map OfDescriptor fs)))
+    ap (λ (t : List ℕ). all_fields (lines_of t)) (append_assoc (line_text f) (10 ∷ []) (list_text fs))
     ∙ next_line f fs all.0 (text_spells fs all.1)
 
 -- ---- for the loops
 
-pub spelling_append : (fs gs : List Fields) → list_spelling (fs ++ gs) ≡ list_spelling fs ++ list_spelling gs
+pub spelling_append : (fs gs : List OperationFields) → all_spelled (fs ++ gs) ≡ all_spelled fs ++ all_spelled gs
 spelling_append [] gs = refl
-spelling_append (f ∷ fs) gs = rw (spelling_append fs gs) (sym (append_assoc (spelling f) (list_spelling fs) (list_spelling gs)))
+spelling_append (f ∷ fs) gs = rw (spelling_append fs gs) (sym (append_assoc (fields_spelling f) (all_spelled fs) (all_spelled gs)))
 
-with_none : (o : Option (List Fields)) → o ≡ with_fields [] o
+with_none : (o : Option (List OperationFields)) → o ≡ with_fields [] o
 with_none None = refl
 with_none (Some more) = refl
 
-with_more : (fs gs : List Fields) (o : Option (List Fields)) → with_fields fs (with_fields gs o) ≡ with_fields (fs ++ gs) o
+with_more : (fs gs : List OperationFields) (o : Option (List OperationFields)) → with_fields fs (with_fields gs o) ≡ with_fields (fs ++ gs) o
 with_more fs gs None = refl
 with_more fs gs (Some more) = ap Some (sym (append_assoc fs gs more))
 
-pub all_listed : (ds : List Descriptor) → AllByRecursion IsListed (map fields ds)
+pub all_listed : (os : List Operation) → AllByRecursion AreListedFields (map operation_fields os)
 all_listed [] = tt
-all_listed (d ∷ ds) = (d.listed, all_listed ds)
+all_listed (o ∷ os) = (listed_of o, all_listed os)
 
-fields_then : (here first rest : Option (List Fields))
+fields_then : (here first rest : Option (List OperationFields))
     → (here >>= λ h. with_fields h (first >>= λ f. with_fields f rest)) ≡ ((here >>= λ h. with_fields h first) >>= λ f. with_fields f rest)
 fields_then None first rest = refl
 fields_then (Some h) None rest = refl
@@ -131,23 +116,23 @@ fields_append : (lines more : List (List ℕ)) → all_fields (lines ++ more) �
 unfolding all_fields
 fields_append [] more = with_none (all_fields more)
 fields_append (line ∷ lines) more =
-    ap (λ (o : Option (List Fields)). line_fields (words_of line) >>= λ h. with_fields h o) (fields_append lines more)
+    ap (λ (o : Option (List OperationFields)). line_fields (words_of line) >>= λ h. with_fields h o) (fields_append lines more)
     ∙ fields_then (line_fields (words_of line)) (all_fields lines) (all_fields more)
 
-one_line : (line : List ℕ) (here : List Fields) → line_fields (words_of line) ≡ Some here → all_fields (line ∷ []) ≡ Some here
+one_line : (line : List ℕ) (here : List OperationFields) → line_fields (words_of line) ≡ Some here → all_fields (line ∷ []) ≡ Some here
 unfolding all_fields
-one_line line here e = ap (λ (o : Option (List Fields)). o >>= λ h. with_fields h (Some [])) e ∙ ap Some (append-nil here)
+one_line line here e = ap (λ (o : Option (List OperationFields)). o >>= λ h. with_fields h (Some [])) e ∙ ap Some (append-nil here)
 
 no_line : (line : List ℕ) (after : List (List ℕ)) → line_fields (words_of line) ≡ None → all_fields (line ∷ after) ≡ None
 unfolding all_fields
-no_line line after e = ap (λ (o : Option (List Fields)). o >>= λ h. with_fields h (all_fields after)) e
+no_line line after e = ap (λ (o : Option (List OperationFields)). o >>= λ h. with_fields h (all_fields after)) e
 
 -- one line more
-pub fields_more : (before : List (List ℕ)) (line : List ℕ) (done here : List Fields) → all_fields before ≡ Some done → line_fields (words_of line) ≡ Some here
+pub fields_more : (before : List (List ℕ)) (line : List ℕ) (done here : List OperationFields) → all_fields before ≡ Some done → line_fields (words_of line) ≡ Some here
     → all_fields (before ++ line ∷ []) ≡ Some (done ++ here)
 fields_more before line done here e f =
     fields_append before (line ∷ [])
-    ∙ ap (λ (o : Option (List Fields)). o >>= λ fs. with_fields fs (all_fields (line ∷ []))) e
+    ∙ ap (λ (o : Option (List OperationFields)). o >>= λ fs. with_fields fs (all_fields (line ∷ []))) e
     ∙ ap (with_fields done) (one_line line here f)
 
 -- lines of which one leaves the grammar spell no operations
@@ -155,7 +140,7 @@ pub leaves_none : (lines : List (List ℕ)) (number : ℕ) → LeavesGrammarAt l
 leaves_none lines number leaves =
     ap all_fields leaves.lines_are
     ∙ fields_append leaves.before (leaves.line ∷ leaves.after)
-    ∙ ap (λ (o : Option (List Fields)). o >>= λ fs. with_fields fs (all_fields (leaves.line ∷ leaves.after))) leaves.spelled.1
+    ∙ ap (λ (o : Option (List OperationFields)). o >>= λ fs. with_fields fs (all_fields (leaves.line ∷ leaves.after))) leaves.spelled.1
     ∙ ap (with_fields leaves.spelled.0) (no_line leaves.line leaves.after leaves.outside)
 
 text_append : (fs gs : List OperationFields) → list_text (fs ++ gs) ≡ list_text fs ++ list_text gs
@@ -217,9 +202,5 @@ pub last_line : (rest line back : List ℕ) (n : ℕ) → n ≡ line_len rest �
     → lines_of rest ≡ line ∷ []
 last_line rest line back n e f g lt = first_line rest line back n e f g ∙ ap (λ (ls : List (List ℕ)). line ∷ ls) (no_lines back lt)
 
-pub text_is_read : (ds : List Descriptor) (text : List ℕ) → text ≡ list_text (map (λ d. OfDescriptor (fields d)) ds) → all_fields (lines_of text) ≡ Some (map fields ds)
-text_is_read ds text e = ap (λ (t : List ℕ). all_fields (lines_of t)) (e ∙ ap list_text (sym (map_map ds))) ∙ text_spells (map fields ds) (all_listed ds)
-  where
-    map_map : (ds : List Descriptor) → map OfDescriptor (map fields ds) ≡ map (λ d. OfDescriptor (fields d)) ds
-    map_map [] = refl
-    map_map (d ∷ ds) = ap (λ (fs : List OperationFields). OfDescriptor (fields d) ∷ fs) (map_map ds)
+pub text_is_read : (os : List Operation) (text : List ℕ) → text ≡ list_text (map operation_fields os) → all_fields (lines_of text) ≡ Some (map operation_fields os)
+text_is_read os text e = ap (λ (t : List ℕ). all_fields (lines_of t)) e ∙ text_spells (map operation_fields os) (all_listed os)

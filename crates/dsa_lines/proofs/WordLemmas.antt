@@ -4,6 +4,7 @@ use Rattle.std.proofs.lemmas.Bool.{eqb-true}
 use Rattle.std.specs.Prelude.{not, ◌||◌, ◌==◌}
 use Rattle.std.specs.Prelude.{◌&&◌}
 use Rattle.std.specs.List.{AllByRecursion}
+use Rattle.std.specs.Str.{bytes_eq}
 use Rattle.dsa_lines.specs.Text.{tail_text, text_of}
 use Rattle.dsa_lines.specs.Words.{Word, is_blank, is_in_word, begins_blank, goes_on, with_front, words_in, words_of, word_len}
 
@@ -102,6 +103,16 @@ AreWords ws = AllByRecursion (λ w. is_word w ≡ true) ws
 pub both : (b d : Bool) → (b && d) ≡ true → (b ≡ true) × (d ≡ true)
 both true d e = (refl, e)
 both false d e = absurd cc
+
+-- words of the same bytes are the same
+pub same_word : (w word : Word) → bytes_eq w word ≡ true → w ≡ word
+same_word [] [] e = refl
+same_word [] (d ∷ ds) e = absurd cc
+same_word (c ∷ cs) [] e = absurd cc
+same_word (c ∷ cs) (d ∷ ds) e =
+    let parts = both (c == d) (bytes_eq cs ds) e in
+    let first : c ≡ d = eqb-true c d parts.0 in
+    let rest : cs ≡ ds = same_word cs ds parts.1 in cc
 
 -- a word ends where its bytes do
 pub word_then : (c : ℕ) (cs rest : List ℕ) → is_in_word c ≡ true → all_in cs ≡ true → goes_on rest ≡ false → words_of (c ∷ (cs ++ rest)) ≡ (c ∷ cs) ∷ words_of rest

@@ -4,18 +4,15 @@
 use Rattle.std.specs.Prelude.{◌≡◌, ℕ, ◌||◌, Bool, true, false, List, [], ◌∷◌, ◌++◌, drop, length, map, slice_index_or, codes, Some, Result, Ok, Err, if◌then◌else◌}
 use Rattle.std.specs.List.{AllByRecursion}
 use Rattle.std.specs.Str.{bytes_eq}
-use Rattle.dsa_descriptor.specs.declared.descriptor.Descriptor.{Descriptor}
-use Rattle.dsa_descriptor.specs.Descriptors.{fields}
-use Rattle.dsa_descriptor.specs.Fences.{after_first, marked_spelling, set_marks}
-use Rattle.dsa_descriptor.specs.Fields.{Fields}
-use Rattle.dsa_descriptor.specs.Lists.{HaveOneOwner}
-use Rattle.dsa_descriptor.specs.Profile.{IsListed}
-use Rattle.dsa_operations.specs.OperationFields.{OperationFields}
-use Rattle.dsa_operations.specs.OperationFields.OperationFields.{OfDescriptor}
+use Rattle.dsa_descriptor.specs.Fences.{after_first, fenced_entries, set_marks}
+use Rattle.dsa_descriptor.specs.Lists.{AreOfOneOwner}
+use Rattle.dsa_operations.specs.declared.operation.Operation.{Operation as AnyOperation}
+use Rattle.dsa_operations.specs.OperationFields.{OperationFields, AreListedFields, operation_fields}
+use Rattle.dsa_operations.specs.Operations.{spelling_of}
 use Rattle.dsa_lines.specs.declared.fault.TextFault.{TextFault}
 use Rattle.dsa_lines.specs.Words.{Word, words_of}
 use Rattle.dsa_lines.specs.Texts.{all_fields, lines_of, text_line, TextSpells}
-use Rattle.dsa_lines.specs.Assembled.{Assembles}
+use Rattle.dsa_lines.specs.Assembled.{IsAssemblyFault}
 
 -- what a line of the grammar has: a barrier, a fenced operation, an operation, or none of these
 pub data LineKind : Type 0 where
@@ -69,33 +66,32 @@ marked_text (f ∷ fs) marks = barrier_line (slice_index_or marks 0 false) ++ (t
 
 -- the lines spell a list, and these are its bytes with the barriers
 pub record IsMarkedListing (keep : Bool) (lines : List (List ℕ)) (bytes : List ℕ) : Type 0 where
-  pub operations : List Descriptor
-  pub spelled : all_fields lines ≡ Some (map fields operations)
-  pub one_owner : HaveOneOwner (map fields operations)
-  pub bytes_are : bytes ≡ marked_spelling (map fields operations) (barriers_of keep lines)
+  pub operations : List AnyOperation
+  pub spelled : all_fields lines ≡ Some (map operation_fields operations)
+  pub one_owner : AreOfOneOwner spelling_of operations
+  pub bytes_are : bytes ≡ fenced_entries spelling_of operations (barriers_of keep lines)
 
 -- if the lines spell a list, its bytes with the barriers; else the fault of assembling the list without them
 abbrev pub AssemblesMarked : {X : Type 0} → (X → List ℕ) → Bool → List (List ℕ) → Result X TextFault → Type 0
 AssemblesMarked shown keep lines (Ok bytes) = IsMarkedListing keep lines (shown bytes)
-AssemblesMarked shown keep lines (Err fault) = Assembles {X = List ℕ} (λ bytes. bytes) lines (Err fault)
+AssemblesMarked shown keep lines (Err fault) = IsAssemblyFault lines fault
 
 -- ---- laws
 
 -- a text that spells operations has a mark for each
 abbrev pub OneMarkEach : Type 0
 OneMarkEach =
-    (keep : Bool) (text : List ℕ) (fs : List Fields) → TextSpells text fs →
+    (keep : Bool) (text : List ℕ) (fs : List OperationFields) → TextSpells text fs →
     length (marks_from keep false (lines_of text)) ≡ length fs
 
 -- the canonical text of listed fields and their marks spells both
 abbrev pub MarkedTextSpells : Type 0
 MarkedTextSpells =
-    (keep : Bool) (fs : List Fields) (marks : List Bool) → AllByRecursion IsListed fs → length marks ≡ length fs →
-    TextSpells (marked_text (map OfDescriptor fs) marks) fs
-    × (marks_from keep false (lines_of (marked_text (map OfDescriptor fs) marks)) ≡ marks)
+    (keep : Bool) (fs : List OperationFields) (marks : List Bool) → AllByRecursion AreListedFields fs → length marks ≡ length fs →
+    TextSpells (marked_text fs marks) fs × (marks_from keep false (lines_of (marked_text fs marks)) ≡ marks)
 
--- the bytes of listed fields and their marks are those of no others
+-- the bytes of operations and their marks are those of no others
 abbrev pub OneMarkedSpelling : Type 0
 OneMarkedSpelling =
-    (ds es : List Descriptor) (marks others : List Bool) → length marks ≡ length ds → length others ≡ length es →
-    marked_spelling (map fields ds) marks ≡ marked_spelling (map fields es) others → (ds ≡ es) × (marks ≡ others)
+    (os ps : List AnyOperation) (marks others : List Bool) → length marks ≡ length os → length others ≡ length ps →
+    fenced_entries spelling_of os marks ≡ fenced_entries spelling_of ps others → (os ≡ ps) × (marks ≡ others)

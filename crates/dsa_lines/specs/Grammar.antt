@@ -1,9 +1,13 @@
 -- The fields that the words of a line spell.
 use Rattle.std.specs.Prelude.{◌≡◌, ℕ, zero, suc, ◌-◌, ◌^◌, ◌==◌, nat_le, true, List, [], ◌∷◌, Option, Some, None, Result, Ok, Err, is_some, option_and_then, bit_and, codes, if◌then◌else◌}
 use Rattle.std.specs.Str.{bytes_eq}
-use Rattle.dsa_descriptor.specs.declared.op.Op.{Op}
 use Rattle.dsa_descriptor.specs.declared.op.Op.TheVariants.{Move, Fill, Compare, ComparePattern, ApplyDelta, Dualcast}
-use Rattle.dsa_descriptor.specs.Fields.{Fields}
+use Rattle.dsa_operations.specs.declared.checksum_op.ChecksumOp.TheVariants.{Crc, CopyCrc}
+use Rattle.dsa_operations.specs.declared.checksum_op.Seed.{Seed}
+use Rattle.dsa_operations.specs.declared.checksum_op.Seed.TheVariants.{Given, At}
+use Rattle.dsa_operations.specs.OperationFields.{OperationFields}
+use Rattle.dsa_lines.specs.declared.operations.LineOp.{LineOp}
+use Rattle.dsa_lines.specs.declared.operations.LineOp.TheVariants.{Descriptor, Checksum}
 use Rattle.dsa_lines.specs.declared.options.Options.{Options}
 use Rattle.dsa_lines.specs.Words.{Word, words_of}
 use Rattle.dsa_lines.specs.Numbers.{number_of, pattern_of, size_of}
@@ -52,24 +56,24 @@ size_at words = do
 -- ---- operations, each with its size and the words after it
 
 -- what follows `move`
-unfoldable pub move_at : List Word → Option (Op × ℕ × List Word)
+unfoldable pub move_at : List Word → Option (LineOp × ℕ × List Word)
 move_at words = do
   src ← number_at (greatest 64) words
   to ← after (codes "->") src.1
   dst ← number_at (greatest 64) to
   comma ← after (codes ",") dst.1
   size ← size_at comma
-  Some (Move src.0 dst.0, size.0, size.1)
+  Some (Descriptor (Move src.0 dst.0), size.0, size.1)
 
 -- what follows `fill`
-unfoldable pub fill_at : List Word → Option (Op × ℕ × List Word)
+unfoldable pub fill_at : List Word → Option (LineOp × ℕ × List Word)
 fill_at words = do
   dst ← number_at (greatest 64) words
   filled ← after (codes "with") dst.1
   pattern ← pattern_at filled
   comma ← after (codes ",") pattern.1
   size ← size_at comma
-  Some (Fill pattern.0 dst.0, size.0, size.1)
+  Some (Descriptor (Fill pattern.0 dst.0), size.0, size.1)
 
 -- the size and the expected result of a comparison, and the words after them
 unfoldable pub expected_at : List Word → Option (ℕ × ℕ × List Word)
@@ -81,33 +85,33 @@ expected_at words = do
   Some (size.0, bit.0, bit.1)
 
 -- what follows `with` in a comparison of two regions
-unfoldable pub compare_region_at : ℕ → List Word → Option (Op × ℕ × List Word)
+unfoldable pub compare_region_at : ℕ → List Word → Option (LineOp × ℕ × List Word)
 compare_region_at src words = do
   src2 ← number_at (greatest 64) words
   expected ← expected_at src2.1
-  Some (Compare src src2.0 expected.1, expected.0, expected.2)
+  Some (Descriptor (Compare src src2.0 expected.1), expected.0, expected.2)
 
 -- what follows `with pattern`
-unfoldable pub compare_pattern_at : ℕ → List Word → Option (Op × ℕ × List Word)
+unfoldable pub compare_pattern_at : ℕ → List Word → Option (LineOp × ℕ × List Word)
 compare_pattern_at src words = do
   pattern ← pattern_at words
   expected ← expected_at pattern.1
-  Some (ComparePattern src pattern.0 expected.1, expected.0, expected.2)
+  Some (Descriptor (ComparePattern src pattern.0 expected.1), expected.0, expected.2)
 
 -- with the pattern after `pattern`, or with a second region if that word is missing
-abbrev pub compare_other_at : ℕ → List Word → Option (List Word) → Option (Op × ℕ × List Word)
+abbrev pub compare_other_at : ℕ → List Word → Option (List Word) → Option (LineOp × ℕ × List Word)
 compare_other_at src words None = compare_region_at src words
 compare_other_at src words (Some rest) = compare_pattern_at src rest
 
 -- what follows `compare`
-unfoldable pub compare_at : List Word → Option (Op × ℕ × List Word)
+unfoldable pub compare_at : List Word → Option (LineOp × ℕ × List Word)
 compare_at words = do
   src ← number_at (greatest 64) words
   other ← after (codes "with") src.1
   compare_other_at src.0 other (after (codes "pattern") other)
 
 -- what follows `delta`
-unfoldable pub delta_at : List Word → Option (Op × ℕ × List Word)
+unfoldable pub delta_at : List Word → Option (LineOp × ℕ × List Word)
 delta_at words = do
   delta ← number_at (greatest 64) words
   comma ← after (codes ",") delta.1
@@ -116,10 +120,10 @@ delta_at words = do
   dst ← number_at (greatest 64) to
   second ← after (codes ",") dst.1
   size ← size_at second
-  Some (ApplyDelta delta.0 dst.0 record_size.0, size.0, size.1)
+  Some (Descriptor (ApplyDelta delta.0 dst.0 record_size.0), size.0, size.1)
 
 -- what follows `dualcast`
-unfoldable pub dualcast_at : List Word → Option (Op × ℕ × List Word)
+unfoldable pub dualcast_at : List Word → Option (LineOp × ℕ × List Word)
 dualcast_at words = do
   src ← number_at (greatest 64) words
   to ← after (codes "->") src.1
@@ -128,17 +132,61 @@ dualcast_at words = do
   dst2 ← number_at (greatest 64) next
   comma ← after (codes ",") dst2.1
   size ← size_at comma
-  Some (Dualcast src.0 dst.0 dst2.0, size.0, size.1)
+  Some (Descriptor (Dualcast src.0 dst.0 dst2.0), size.0, size.1)
+
+-- the value of a seed
+abbrev pub seed_value_at : List Word → Option (Seed × List Word)
+seed_value_at words = number_at (greatest 32) words >>= λ value. Some (Given value.0, value.1)
+
+-- the address of a seed
+abbrev pub seed_address_at : List Word → Option (Seed × List Word)
+seed_address_at words = number_at (greatest 64) words >>= λ address. Some (At address.0, address.1)
+
+-- the address after `at`, or the value if that word is missing
+abbrev pub seed_by : List Word → Option (List Word) → Option (Seed × List Word)
+seed_by words None = seed_value_at words
+seed_by words (Some rest) = seed_address_at rest
+
+-- what follows a comma and `seed`; if these words are missing, the seed is 0
+abbrev pub seed_or_zero : List Word → Option (List Word) → Option (Seed × List Word)
+seed_or_zero words None = Some (Given 0, words)
+seed_or_zero words (Some rest) = seed_by rest (after (codes "at") rest)
+
+-- the seed of a checksum, and the words after it
+unfoldable pub seed_at : List Word → Option (Seed × List Word)
+seed_at words = seed_or_zero words (named (codes "seed") words)
+
+-- what follows `crc`
+unfoldable pub crc_at : List Word → Option (LineOp × ℕ × List Word)
+crc_at words = do
+  src ← number_at (greatest 64) words
+  comma ← after (codes ",") src.1
+  size ← size_at comma
+  seed ← seed_at size.1
+  Some (Checksum (Crc src.0 seed.0), size.0, seed.1)
+
+-- what follows `copy_crc`
+unfoldable pub copy_crc_at : List Word → Option (LineOp × ℕ × List Word)
+copy_crc_at words = do
+  src ← number_at (greatest 64) words
+  to ← after (codes "->") src.1
+  dst ← number_at (greatest 64) to
+  comma ← after (codes ",") dst.1
+  size ← size_at comma
+  seed ← seed_at size.1
+  Some (Checksum (CopyCrc src.0 dst.0 seed.0), size.0, seed.1)
 
 -- an operation, by its first word
-unfoldable pub op_at : List Word → Option (Op × ℕ × List Word)
+unfoldable pub op_at : List Word → Option (LineOp × ℕ × List Word)
 op_at [] = None
 op_at (w ∷ ws) =
     if bytes_eq w (codes "move") then move_at ws else
     if bytes_eq w (codes "fill") then fill_at ws else
     if bytes_eq w (codes "compare") then compare_at ws else
     if bytes_eq w (codes "delta") then delta_at ws else
-    if bytes_eq w (codes "dualcast") then dualcast_at ws else None
+    if bytes_eq w (codes "dualcast") then dualcast_at ws else
+    if bytes_eq w (codes "crc") then crc_at ws else
+    if bytes_eq w (codes "copy_crc") then copy_crc_at ws else None
 
 -- ---- options, each at most once and in any order
 
@@ -191,7 +239,7 @@ options_at (suc most) o (w ∷ ws) = do
 -- ---- a line
 
 -- the fields that the words of a line spell: an operation, its record and its options
-unfoldable pub fields_of : List Word → Option Fields
+unfoldable pub fields_of : List Word → Option OperationFields
 fields_of words = do
   op ← op_at words
   later ← named (codes "record") op.2
@@ -200,7 +248,7 @@ fields_of words = do
   Some (fields_with op.0 op.1 record_at.0 options)
 
 -- the line spells these fields
-abbrev pub Spells : List ℕ → Fields → Type 0
+abbrev pub Spells : List ℕ → OperationFields → Type 0
 Spells text f = fields_of (words_of text) ≡ Some f
 
 -- What a reader returned, seen by view, is what reading gives.

@@ -1,8 +1,13 @@
 -- The options after the record of a line, and the flags that they set.
 use Rattle.std.specs.Prelude.{ℕ, ◌==◌, Bool, false, not, Option, Some, None, bit_and, bit_or, if◌then◌else◌}
-use Rattle.dsa_descriptor.specs.declared.op.Op.{Op}
-use Rattle.dsa_descriptor.specs.Fields.{Fields}
 use Rattle.dsa_descriptor.specs.Profile.{required_flags}
+use Rattle.dsa_operations.specs.declared.checksum_op.Seed.{Seed}
+use Rattle.dsa_operations.specs.declared.checksum_op.Seed.TheVariants.{Given, At}
+use Rattle.dsa_operations.specs.OperationFields.{OperationFields}
+use Rattle.dsa_operations.specs.OperationFields.OperationFields.{OfDescriptor, OfChecksum}
+use Rattle.dsa_operations.specs.Operands.{seed_of}
+use Rattle.dsa_lines.specs.declared.operations.LineOp.{LineOp}
+use Rattle.dsa_lines.specs.declared.operations.LineOp.TheVariants as line_op
 use Rattle.dsa_lines.specs.declared.options.Options.{Options}
 
 -- no option has been read yet
@@ -27,20 +32,46 @@ or_zero (Some n) = n
 abbrev pub flags_with : ℕ → Bool → ℕ
 flags_with carried check = bit_or (bit_or required_flags carried) (if check then check_mask else 0)
 
--- the number of an option that the line leaves out is 0
-abbrev pub fields_with : Op → ℕ → ℕ → Options → Fields
-fields_with op size record_at o =
-    record {
-      pasid = or_zero o.pasid;
-      privileged = o.privileged;
-      flags = flags_with (or_zero o.flags) o.check;
+-- 0x010000, if the seed is read from memory (specification 341204, CRC generation)
+abbrev pub seed_flag : Seed → ℕ
+seed_flag (Given value) = 0
+seed_flag (At address) = 0x010000
+
+-- the flags of the line of this operation: for a checksum, also that of its seed
+abbrev pub line_flags : LineOp → ℕ → Bool → ℕ
+line_flags (line_op.Descriptor op) carried check = flags_with carried check
+line_flags (line_op.Checksum op) carried check = bit_or (flags_with carried check) (seed_flag (seed_of op))
+
+-- the fields of this operation: its owner's PASID and privilege, its flags, the address of its record, its size and its
+-- interrupt handle
+abbrev pub fields_by : LineOp → ℕ → Bool → (flags record_at size int_handle : ℕ) → OperationFields
+fields_by (line_op.Descriptor op) pasid privileged flags record_at size int_handle =
+    OfDescriptor (record {
+      pasid = pasid;
+      privileged = privileged;
+      flags = flags;
       record_at = record_at;
       size = size;
-      int_handle = or_zero o.handle;
+      int_handle = int_handle;
       op = op;
-    }
+    })
+fields_by (line_op.Checksum op) pasid privileged flags record_at size int_handle =
+    OfChecksum (record {
+      pasid = pasid;
+      privileged = privileged;
+      flags = flags;
+      record_at = record_at;
+      size = size;
+      int_handle = int_handle;
+      op = op;
+    })
 
--- the flags of a descriptor that are written under `flags`
+-- the number of an option that the line leaves out is 0
+abbrev pub fields_with : LineOp → ℕ → ℕ → Options → OperationFields
+fields_with op size record_at o =
+    fields_by op (or_zero o.pasid) o.privileged (line_flags op (or_zero o.flags) o.check) record_at size (or_zero o.handle)
+
+-- the flags of an operation that are written under `flags`
 abbrev pub carried_flags : ℕ → ℕ
 carried_flags flags = bit_and flags carried_mask
 

@@ -2,8 +2,9 @@
 use Rattle.std.specs.Prelude.{◌≡◌, ℕ, List, [], ◌∷◌, map, Some}
 use Rattle.std.specs.List.{AllByRecursion, flat_map}
 use Rattle.dsa_descriptor.specs.Descriptors.{fields}
-use Rattle.dsa_descriptor.specs.Fields.{Fields}
 use Rattle.dsa_descriptor.specs.Spelling.{spelling}
+use Rattle.dsa_operations.specs.OperationFields.{OperationFields}
+use Rattle.dsa_operations.specs.OperationFields.OperationFields.{OfDescriptor}
 use Rattle.dsa_lines.specs.declared.recording.Recorded.{Recorded}
 use Rattle.dsa_lines.specs.declared.recording.Recorded.TheVariants.{Batch as BatchSaid, Entry as EntrySaid}
 use Rattle.dsa_lines.specs.Texts.{lines_of, TextSpells}
@@ -14,10 +15,10 @@ use Rattle.dsa_lines.specs.Stagings.{StagedPiece, IsPlausible, IsStaging, staged
 use Rattle.dsa_lines.specs.Stagings.StagedEntry.{Piece}
 
 -- the fields of the descriptors that are submitted by themselves, in order
-abbrev pub lone_fields : List Submission → List Fields
+abbrev pub lone_fields : List Submission → List OperationFields
 lone_fields [] = []
 lone_fields (Batch count list_at record_at ∷ ss) = lone_fields ss
-lone_fields (Lone d ∷ ss) = fields d ∷ lone_fields ss
+lone_fields (Lone d ∷ ss) = OfDescriptor (fields d) ∷ lone_fields ss
 lone_fields (Other bytes fault ∷ ss) = lone_fields ss
 
 -- the text of a portal without other bytes spells its lone descriptors
@@ -31,7 +32,7 @@ abbrev pub StagingTextIsRead : Type 0
 StagingTextIsRead =
     (at : ℕ) (bytes : List ℕ) (ps : List StagedPiece) (records : List (List ℕ)) →
     IsStaging bytes (map Piece ps) records → AllByRecursion IsPlausible records →
-    TextSpells (staging_text at (map Piece ps) records) (map (λ p. fields p.piece) ps)
+    TextSpells (staging_text at (map Piece ps) records) (map (λ p. OfDescriptor (fields p.piece)) ps)
 
 -- ---- as a recording
 

@@ -1,10 +1,10 @@
 -- A recording as lines (this project's choice): the lines of a portal, with those of the members of a batch, as a
 -- staging area has them, after the line of the batch.
-use Rattle.std.specs.Prelude.{◌≡◌, ◌≢◌, ⊤, ℕ, ◌+◌, List, [], ◌∷◌, ◌++◌, length, replicate, take, codes, bit_or, Option, Some, None, Result, Ok, Err, if◌then◌else◌}
+use Rattle.std.specs.Prelude.{◌≡◌, ◌≢◌, ⊤, ℕ, ◌+◌, List, [], ◌∷◌, ◌++◌, length, replicate, take, codes, true, Option, Some, None, Result, Ok, Err, if◌then◌else◌}
 use Rattle.std.specs.Str.{bytes_eq}
-use Rattle.dsa_descriptor.specs.Fields.{Fields}
-use Rattle.dsa_descriptor.specs.Spelling.{spelling}
+use Rattle.dsa_descriptor.specs.Fences.{fenced}
 use Rattle.dsa_emission.specs.Emission.{batch_spelling}
+use Rattle.dsa_operations.specs.OperationFields.{fields_spelling}
 use Rattle.dsa_lines.specs.declared.fault.Expected.{Expected}
 use Rattle.dsa_lines.specs.declared.fault.TextFault.{TextFault}
 use Rattle.dsa_lines.specs.declared.fault.TextFault.TheVariants.{Grammar, List as Listed, Memory}
@@ -32,19 +32,15 @@ batch_at words = do
   record_at ← number_at (greatest 64) record_name
   at_end (record { count = count.0; list_at = list.0; record_at = record_at.0 }) record_at.1
 
--- the flag 0x0001, fence, is set
-abbrev pub fenced : Fields → Fields
-fenced f = record f { flags = bit_or f.flags 0x0001 }
-
--- the bytes of a descriptor
+-- the bytes of an operation
 abbrev pub entry_at : List Word → Option (List ℕ)
-entry_at words = fields_of words >>= λ f. Some (spelling f)
+entry_at words = fields_of words >>= λ f. Some (fields_spelling f)
 
--- the bytes of a fenced descriptor
+-- the same with the flag 0x0001, fence
 abbrev pub fenced_at : List Word → Option (List ℕ)
-fenced_at words = fields_of words >>= λ f. Some (spelling (fenced f))
+fenced_at words = fields_of words >>= λ f. Some (fenced true (fields_spelling f))
 
--- a line with words is that of a batch, of a fenced descriptor after `fence`, or of a descriptor
+-- a line with words is that of a batch, of a fenced operation after `fence`, or of an operation
 unfoldable pub recorded_at : List Word → Option Recorded
 recorded_at [] = None
 recorded_at (w ∷ ws) =
@@ -69,13 +65,13 @@ all_recorded (line ∷ lines) = line_recorded (words_of line) >>= λ here. with_
 
 -- ---- its bytes
 
--- the PASID and privilege of a descriptor that comes first; zero if none does
+-- the PASID and privilege of an operation that comes first; zero if none does
 abbrev pub first_owner : List Recorded → List ℕ
 first_owner [] = replicate 4 0
 first_owner (Batch b ∷ rs) = replicate 4 0
 first_owner (Entry bytes ∷ rs) = take 4 bytes
 
--- the entry of a batch, with this owner: that of the descriptor after it
+-- the entry of a batch, with this owner: that of the operation after it
 abbrev pub batch_bytes : BatchLine → List ℕ → List ℕ
 batch_bytes b owner = batch_spelling owner b.record_at b.list_at b.count
 

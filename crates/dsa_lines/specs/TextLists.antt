@@ -1,9 +1,7 @@
 -- What one walk over the lines of a text gives: the operations, their marks, and the line of each (this project's choice).
 use Rattle.std.specs.Prelude.{◌≡◌, ⊤, ℕ, ◌+◌, Bool, true, false, List, [], ◌∷◌, ◌++◌, length, map, slice_index_or, Some, None, Result, Ok, Err}
-use Rattle.dsa_descriptor.specs.Fields.{Fields}
-use Rattle.dsa_descriptor.specs.Lists.{list_spelling}
-use Rattle.dsa_descriptor.specs.Spelling.{spelling}
 use Rattle.dsa_descriptor.specs.declared.fault.ListFault.TheVariants.{Field, Length, Memory as ListMemory, MixedPasid}
+use Rattle.dsa_operations.specs.OperationFields.{OperationFields, all_spelled, fields_spelling}
 use Rattle.dsa_lines.specs.declared.fault.TextFault.{TextFault}
 use Rattle.dsa_lines.specs.declared.fault.TextFault.TheVariants.{Grammar, List as Listed, Memory}
 use Rattle.dsa_lines.specs.declared.list_line.ListLine.{ListLine}
@@ -54,7 +52,7 @@ NamesLine lines Memory = ⊤
 -- a text that spells operations has a line for each
 abbrev pub OneLineEach : Type 0
 OneLineEach =
-    (text : List ℕ) (fs : List Fields) → TextSpells text fs → length (operation_lines 1 (lines_of text)) ≡ length fs
+    (text : List ℕ) (fs : List OperationFields) → TextSpells text fs → length (operation_lines 1 (lines_of text)) ≡ length fs
 
 -- ---- for private clauses
 
@@ -68,14 +66,14 @@ abbrev pub HasLine : {E : Type 0} → List Word → Result ListLine E → Type 0
 HasLine words (Ok Nothing) = (line_fields words ≡ Some []) × (line_kind words ≡ Other)
 HasLine words (Ok BarrierLine) = (line_fields words ≡ Some []) × (line_kind words ≡ Barrier)
 HasLine words (Ok (Entry bytes is_fenced)) =
-    (f : Fields) × (line_fields words ≡ Some (f ∷ [])) × (bytes ≡ spelling f) × (line_kind words ≡ operation_kind is_fenced)
+    (f : OperationFields) × (line_fields words ≡ Some (f ∷ [])) × (bytes ≡ fields_spelling f) × (line_kind words ≡ operation_kind is_fenced)
 HasLine words (Err place) = line_fields words ≡ None
 
 -- one line more: what it spells, its mark, its number, and whether a barrier is before the next operation
 pub record HasMore (keep pending : Bool) (number : ℕ) (line : List ℕ) (before after : Gathered) (next : Bool) : Type 0 where
-  pub here : List Fields
+  pub here : List OperationFields
   pub spelled : line_fields (words_of line) ≡ Some here
-  pub bytes : after.bytes.items ≡ before.bytes.items ++ list_spelling here
+  pub bytes : after.bytes.items ≡ before.bytes.items ++ all_spelled here
   pub marks : after.marks.items ≡ before.marks.items ++ line_marks keep pending (line_kind (words_of line))
   pub lines : map line_shown after.lines.items ≡ map line_shown before.lines.items ++ numbered number line (line_kind (words_of line))
   pub next_is : next ≡ pending_after pending (line_kind (words_of line))
@@ -87,9 +85,9 @@ PushesLine keep pending number line before after (Err fault) = StopsAt number (l
 
 -- all that the lines have
 pub record HasAll (keep : Bool) (lines : List (List ℕ)) (g : Gathered) : Type 0 where
-  pub operations : List Fields
+  pub operations : List OperationFields
   pub spelled : all_fields lines ≡ Some operations
-  pub bytes : g.bytes.items ≡ list_spelling operations
+  pub bytes : g.bytes.items ≡ all_spelled operations
   pub marks : g.marks.items ≡ marks_from keep false lines
   pub numbers : map line_shown g.lines.items ≡ operation_lines 1 lines
 

@@ -1,7 +1,6 @@
 -- The operations that a text spells, and the canonical text of a list.
 use Rattle.std.specs.Prelude.{◌≡◌, ℕ, suc, ◌==◌, List, [], ◌∷◌, ◌++◌, codes, Option, Some, None, if◌then◌else◌}
 use Rattle.std.specs.Str.{bytes_eq}
-use Rattle.dsa_descriptor.specs.Fields.{Fields}
 use Rattle.dsa_operations.specs.OperationFields.{OperationFields}
 use Rattle.dsa_lines.specs.Words.{Word, words_of}
 use Rattle.dsa_lines.specs.Grammar.{fields_of, ◌>>=◌}
@@ -20,7 +19,7 @@ lines_of (c ∷ cs) = if c == 10 then [] ∷ lines_of cs else with_byte c (lines
 
 -- the operation of a line, after `fence` if the line begins with that word. A line without words, of a batch or of a
 -- barrier has none. A plan has batches and fences of its own, so those of the text are passed over
-unfoldable pub line_fields : List Word → Option (List Fields)
+unfoldable pub line_fields : List Word → Option (List OperationFields)
 line_fields [] = Some []
 line_fields (w ∷ ws) =
     if bytes_eq w (codes "batch") then (batch_at ws >>= λ b. Some []) else
@@ -29,17 +28,17 @@ line_fields (w ∷ ws) =
     (fields_of (w ∷ ws) >>= λ f. Some (f ∷ []))
 
 -- the operation of a line and those of the lines after it, if these are of the grammar
-abbrev pub with_fields : List Fields → Option (List Fields) → Option (List Fields)
+abbrev pub with_fields : List OperationFields → Option (List OperationFields) → Option (List OperationFields)
 with_fields fs None = None
 with_fields fs (Some more) = Some (fs ++ more)
 
 -- the operations of the lines, if each that has words is of the grammar
-unfoldable pub all_fields : List (List ℕ) → Option (List Fields)
+unfoldable pub all_fields : List (List ℕ) → Option (List OperationFields)
 all_fields [] = Some []
 all_fields (line ∷ lines) = line_fields (words_of line) >>= λ here. with_fields here (all_fields lines)
 
 -- the text spells these operations
-abbrev pub TextSpells : List ℕ → List Fields → Type 0
+abbrev pub TextSpells : List ℕ → List OperationFields → Type 0
 TextSpells text fs = all_fields (lines_of text) ≡ Some fs
 
 -- the canonical line and a newline

@@ -1,10 +1,11 @@
 //! The bytes of a list, from its text.
 
 ghost use Rattle.std.specs.Prelude.{◌≡◌, List, map, MatchResult};
-ghost use Rattle.dsa_descriptor.specs.declared.descriptor.Descriptor.{Descriptor};
-ghost use Rattle.dsa_descriptor.specs.Descriptors.{fields};
-ghost use Rattle.dsa_descriptor.specs.Lists.{list_spelling, HaveOneOwner};
-ghost use Rattle.dsa_operations.specs.OperationFields.OperationFields.{OfDescriptor};
+ghost use Rattle.std.specs.List.{flat_map};
+ghost use Rattle.dsa_descriptor.specs.Lists.{AreOfOneOwner};
+ghost use Rattle.dsa_operations.specs.declared.operation.Operation.{Operation};
+ghost use Rattle.dsa_operations.specs.OperationFields.{operation_fields};
+ghost use Rattle.dsa_operations.specs.Operations.{spelling_of};
 ghost use Rattle.dsa_lines.specs.declared.fault.TextFault.TheVariants.{Memory};
 ghost use Rattle.dsa_lines.specs.Texts.{lines_of, list_text};
 ghost use Rattle.dsa_lines.specs.Assembled.{Assembles};
@@ -12,7 +13,8 @@ ghost use Rattle.dsa_lines.specs.Barriers.{AssemblesMarked};
 
 use crate::fault::TextFault;
 use crate::text_list::{TextList, gather, parse_text, text_fault};
-use dsa_descriptor::{read_list, write_list};
+use dsa_descriptor::{read_entries, write_entries};
+use dsa_operations::Operation;
 use std::alloc::Global;
 
 /// The bytes of the list that a text spells, 64 for each of its lines that names an operation. A plan has batches and
@@ -23,17 +25,16 @@ use std::alloc::Global;
 pub fn assemble(alloc: Global, text: &[u8]) -> Result<Vec<u8>, TextFault>
     ensures answer { Assembles (λ bytes. bytes.items) (lines_of text.now) result }
     // The text of a list is read back.
-    ensures again { (ds : List Descriptor) →
-        HaveOneOwner (map fields ds) → text.now ≡ list_text (map (λ d. OfDescriptor (fields d)) ds) →
-        MatchResult result
-        (λ bytes. bytes.items ≡ list_spelling (map fields ds)) (λ fault. fault ≡ Memory) }
+    ensures again { (os : List Operation) → AreOfOneOwner spelling_of os →
+        text.now ≡ list_text (map operation_fields os) → MatchResult result
+        (λ bytes. bytes.items ≡ flat_map spelling_of os) (λ fault. fault ≡ Memory) }
 {
     let gathered = match gather(alloc, text, false) {
         Ok(gathered) => gathered,
         Err(fault) => return Err(fault),
     };
     // read for its faults only
-    if let Err(fault) = read_list(alloc, gathered.bytes.as_slice()) {
+    if let Err(fault) = read_entries::<Operation>(alloc, gathered.bytes.as_slice()) {
         return Err(text_fault(&gathered.lines, fault));
     }
     Ok(gathered.bytes)
@@ -55,7 +56,7 @@ pub fn assemble_fenced<'a>(
         Ok(read) => read,
         Err(fault) => return Err(fault),
     };
-    match write_list(alloc, &read.list) {
+    match write_entries(alloc, &read.list.entries, &read.list.barriers) {
         Ok(bytes) => Ok((bytes, read)),
         Err(_) => Err(TextFault::Memory),
     }

@@ -1,4 +1,4 @@
-//! Why a line spells no descriptor, and a text no list; why bytes are no portal and no staging area.
+//! Why a line spells no operation, and a text no list; why bytes are no portal and no staging area.
 
 ghost use Rattle.std.specs.Prelude.{◌≡◌};
 ghost use Rattle.dsa_lines.specs.declared.fault.EmittedFault.TheVariants.{Memory};
@@ -31,6 +31,8 @@ pub enum Expected {
     Bit,
     /// The 16 hexadecimal digits of a pattern.
     Pattern,
+    /// A number below 2^32, or the word `at`.
+    Seed,
     /// A comma.
     Comma,
     /// A comma, or the end of the line.
@@ -61,7 +63,7 @@ impl Expected {
     /// What is missing, in words for a reader.
     pub fn text(self) -> &'static str {
         match self {
-            Expected::Operation => "move, fill, compare, delta or dualcast",
+            Expected::Operation => "move, fill, compare, delta, dualcast, crc or copy_crc",
             Expected::Number => "a number below 2^64",
             Expected::NumberOrPattern => "a number below 2^64, or pattern",
             Expected::Size => "a number below 2^32",
@@ -70,6 +72,7 @@ impl Expected {
             Expected::Flags => "flags of 0x0002, 0x0020, 0x0100 to 0x8000, 0x020000 and 0x040000",
             Expected::Bit => "0 or 1",
             Expected::Pattern => "16 hexadecimal digits",
+            Expected::Seed => "a number below 2^32, or at",
             Expected::Comma => "a comma",
             Expected::CommaOrEnd => "a comma, or the end of the line",
             Expected::Arrow => "->",
@@ -87,12 +90,12 @@ impl Expected {
     }
 }
 
-/// Why a line spells no descriptor.
+/// Why a line spells no operation of a list.
 #[derive(Clone, Copy, PartialEq, Eq)]
 pub enum LineFault {
     /// The line leaves the grammar at this column, from 1 on, where this was expected.
     Grammar(usize, Expected),
-    /// The fields that it spells are no listed descriptor.
+    /// The fields that it spells are none that a list may have.
     Field(FieldFault),
 }
 

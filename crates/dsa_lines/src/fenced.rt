@@ -53,7 +53,7 @@ pub fn marked_text_spells()
     ensures { MarkedTextSpells }
 {}
 
-/// The bytes of descriptors and their marks are those of no others.
+/// The bytes of operations and their marks are those of no others.
 #[tactic(auto, using(crate::proofs::Marks::one_marked_spelling))]
 pub fn one_marked_spelling()
     ensures { OneMarkedSpelling }

@@ -1,5 +1,5 @@
-//! Descriptors as lines of text: each line is read to its descriptor, and each descriptor has one canonical line; whole
-//! texts: a list of descriptors as lines, and back; and the texts of a portal and a staging area.
+//! Operations as lines of text: each line is read to its operation, and each operation has one canonical line; whole
+//! texts: a list of operations as lines, and back; and the texts of a portal and a staging area.
 #![tactic(auto)]
 
 mod assembling;
@@ -31,7 +31,7 @@ pub use emitted_laws::emissions_have_texts;
 pub use fault::{EmittedFault, Expected, LineFault, TextFault};
 pub use fenced::{marked_text_spells, one_mark_each, one_marked_spelling, text_with_barriers};
 pub use laws::{
-    canonical_line_spells, canonical_text_spells, one_line_no_newline, one_line_one_descriptor,
+    canonical_line_spells, canonical_text_spells, one_line_no_newline, one_line_one_operation,
     one_text_one_list, spells_one, text_spells_one,
 };
 pub use list_line::operation_bytes;
@@ -47,4 +47,4 @@ pub use staging_laws::{
     one_staging_shown, one_staging_text, staging_text_is_read, staging_text_is_recorded,
 };
 pub use text_list::{OperationLine, TextList, line_of_operation, one_line_each, parse_text};
-pub use writing::{line_of, op_text, operation_line};
+pub use writing::{line_of, op_text, operation_line, operation_text};

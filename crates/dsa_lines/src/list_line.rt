@@ -1,7 +1,7 @@
 //! What a line of a list has: an operation, a barrier, or neither.
 
 ghost use Rattle.std.specs.Prelude.{◌≡◌, [], List, Some, None, true, false, MatchResult};
-ghost use Rattle.dsa_descriptor.specs.Fields.{Fields};
+ghost use Rattle.dsa_operations.specs.OperationFields.{OperationFields};
 ghost use Rattle.dsa_lines.specs.Answers.{HasOperation};
 ghost use Rattle.dsa_lines.specs.Recordings.{at_end, batch_at};
 ghost use Rattle.dsa_lines.specs.TextLists.{HasLine};
@@ -26,8 +26,8 @@ pub(crate) enum ListLine {
 /// Nothing, if the text has no word.
 fn nothing_in(text: &[u8]) -> Result<(), Stop>
     ensures { MatchResult result
-        (λ _. at_end {A = List Fields} [] (words_of text.now) ≡ Some [])
-        (λ _. at_end {A = List Fields} [] (words_of text.now) ≡ None) }
+        (λ _. at_end {A = List OperationFields} [] (words_of text.now) ≡ Some [])
+        (λ _. at_end {A = List OperationFields} [] (words_of text.now) ≡ None) }
 {
     match next_word(text) {
         None => Ok(()),
@@ -69,7 +69,7 @@ pub(crate) fn list_line(text: &[u8]) -> Result<ListLine, (usize, Expected)>
     }
 }
 
-/// The 64 bytes of the operation that a line of a list names, which may be no listed descriptor. A
+/// The 64 bytes of the operation that a line of a list names, which a list may not have. A
 /// line without words has none, nor has that of a batch or a barrier; `fence` before an operation
 /// is passed over. A text with a newline is no line.
 ///

@@ -1,12 +1,23 @@
 //! Reading the operation of a line.
 
+ghost use Rattle.std.specs.Prelude.{codes};
 ghost use Rattle.dsa_lines.specs.Words.{words_of};
-ghost use Rattle.dsa_lines.specs.Grammar.{Gives, size_at, move_at, fill_at, expected_at, compare_region_at, compare_pattern_at, compare_at, delta_at, dualcast_at, op_at};
+ghost use Rattle.dsa_lines.specs.Grammar.{Gives, after, size_at, move_at, fill_at, expected_at, compare_region_at, compare_pattern_at, compare_at, delta_at, dualcast_at, seed_address_at, seed_by, seed_value_at, seed_at, crc_at, copy_crc_at, op_at};
 
 use crate::fault::{Expected, Stop};
 use crate::reading::{after, count_at, named, number_at, pattern_at};
 use crate::words::next_word;
 use dsa_descriptor::Op;
+use dsa_operations::{ChecksumOp, Seed};
+
+/// The operation of a line.
+#[derive(Clone, Copy)]
+pub(crate) enum LineOp {
+    /// That of a descriptor.
+    Descriptor(Op),
+    /// One that makes a checksum.
+    Checksum(ChecksumOp),
+}
 
 /// A size in bytes, and what comes after it.
 #[tactic(auto, unfolding(crate::specs::Grammar::size_at))]
@@ -20,7 +31,7 @@ fn size_at(text: &[u8]) -> Result<(u32, &[u8]), Stop>
 
 /// A move, after its name.
 #[tactic(auto, unfolding(crate::specs::Grammar::move_at))]
-fn move_at(text: &[u8]) -> Result<(Op, u32, &[u8]), Stop>
+fn move_at(text: &[u8]) -> Result<(LineOp, u32, &[u8]), Stop>
     ensures { Gives (λ x. (x.0, x.1, words_of x.2.now)) result (move_at (words_of text.now)) }
 {
     let (src, rest) = number_at(text, u64::MAX, Expected::Number)?;
@@ -28,12 +39,12 @@ fn move_at(text: &[u8]) -> Result<(Op, u32, &[u8]), Stop>
     let (dst, rest) = number_at(rest, u64::MAX, Expected::Number)?;
     let rest = after(rest, b",", Expected::Comma)?;
     let (size, rest) = size_at(rest)?;
-    Ok((Op::Move { src, dst }, size, rest))
+    Ok((LineOp::Descriptor(Op::Move { src, dst }), size, rest))
 }
 
 /// A fill, after its name.
 #[tactic(auto, unfolding(crate::specs::Grammar::fill_at))]
-fn fill_at(text: &[u8]) -> Result<(Op, u32, &[u8]), Stop>
+fn fill_at(text: &[u8]) -> Result<(LineOp, u32, &[u8]), Stop>
     ensures { Gives (λ x. (x.0, x.1, words_of x.2.now)) result (fill_at (words_of text.now)) }
 {
     let (dst, rest) = number_at(text, u64::MAX, Expected::Number)?;
@@ -41,7 +52,8 @@ fn fill_at(text: &[u8]) -> Result<(Op, u32, &[u8]), Stop>
     let (pattern, rest) = pattern_at(rest)?;
     let rest = after(rest, b",", Expected::Comma)?;
     let (size, rest) = size_at(rest)?;
-    Ok((Op::Fill { pattern, dst }, size, rest))
+    let op = Op::Fill { pattern, dst };
+    Ok((LineOp::Descriptor(op), size, rest))
 }
 
 /// The size and the expected result of a comparison.
@@ -58,7 +70,7 @@ fn expected_at(text: &[u8]) -> Result<(u32, u8, &[u8]), Stop>
 
 /// A comparison with a second region.
 #[tactic(auto, unfolding(crate::specs::Grammar::compare_region_at))]
-fn compare_region_at(src: u64, text: &[u8]) -> Result<(Op, u32, &[u8]), Stop>
+fn compare_region_at(src: u64, text: &[u8]) -> Result<(LineOp, u32, &[u8]), Stop>
     ensures { Gives
         (λ x. (x.0, x.1, words_of x.2.now)) result (compare_region_at src (words_of text.now)) }
 {
@@ -69,12 +81,12 @@ fn compare_region_at(src: u64, text: &[u8]) -> Result<(Op, u32, &[u8]), Stop>
         src2,
         expected,
     };
-    Ok((op, size, rest))
+    Ok((LineOp::Descriptor(op), size, rest))
 }
 
 /// A comparison with a pattern, after the word `pattern`.
 #[tactic(auto, unfolding(crate::specs::Grammar::compare_pattern_at))]
-fn compare_pattern_at(src: u64, text: &[u8]) -> Result<(Op, u32, &[u8]), Stop>
+fn compare_pattern_at(src: u64, text: &[u8]) -> Result<(LineOp, u32, &[u8]), Stop>
     ensures { Gives
         (λ x. (x.0, x.1, words_of x.2.now)) result (compare_pattern_at src (words_of text.now)) }
 {
@@ -85,12 +97,12 @@ fn compare_pattern_at(src: u64, text: &[u8]) -> Result<(Op, u32, &[u8]), Stop>
         pattern,
         expected,
     };
-    Ok((op, size, rest))
+    Ok((LineOp::Descriptor(op), size, rest))
 }
 
 /// A comparison, after its name.
 #[tactic(auto, unfolding(crate::specs::Grammar::compare_at))]
-fn compare_at(text: &[u8]) -> Result<(Op, u32, &[u8]), Stop>
+fn compare_at(text: &[u8]) -> Result<(LineOp, u32, &[u8]), Stop>
     ensures { Gives (λ x. (x.0, x.1, words_of x.2.now)) result (compare_at (words_of text.now)) }
 {
     let (src, rest) = number_at(text, u64::MAX, Expected::Number)?;
@@ -103,7 +115,7 @@ fn compare_at(text: &[u8]) -> Result<(Op, u32, &[u8]), Stop>
 
 /// A delta, after its name.
 #[tactic(auto, unfolding(crate::specs::Grammar::delta_at))]
-fn delta_at(text: &[u8]) -> Result<(Op, u32, &[u8]), Stop>
+fn delta_at(text: &[u8]) -> Result<(LineOp, u32, &[u8]), Stop>
     ensures { Gives (λ x. (x.0, x.1, words_of x.2.now)) result (delta_at (words_of text.now)) }
 {
     let (delta, rest) = number_at(text, u64::MAX, Expected::Number)?;
@@ -118,12 +130,12 @@ fn delta_at(text: &[u8]) -> Result<(Op, u32, &[u8]), Stop>
         dst,
         record_size,
     };
-    Ok((op, size, rest))
+    Ok((LineOp::Descriptor(op), size, rest))
 }
 
 /// A dualcast, after its name.
 #[tactic(auto, unfolding(crate::specs::Grammar::dualcast_at))]
-fn dualcast_at(text: &[u8]) -> Result<(Op, u32, &[u8]), Stop>
+fn dualcast_at(text: &[u8]) -> Result<(LineOp, u32, &[u8]), Stop>
     ensures { Gives (λ x. (x.0, x.1, words_of x.2.now)) result (dualcast_at (words_of text.now)) }
 {
     let (src, rest) = number_at(text, u64::MAX, Expected::Number)?;
@@ -133,12 +145,78 @@ fn dualcast_at(text: &[u8]) -> Result<(Op, u32, &[u8]), Stop>
     let (dst2, rest) = number_at(rest, u64::MAX, Expected::Number)?;
     let rest = after(rest, b",", Expected::Comma)?;
     let (size, rest) = size_at(rest)?;
-    Ok((Op::Dualcast { src, dst, dst2 }, size, rest))
+    let op = Op::Dualcast { src, dst, dst2 };
+    Ok((LineOp::Descriptor(op), size, rest))
+}
+
+/// The value of a seed.
+fn seed_value_at(text: &[u8]) -> Result<(Seed, &[u8]), Stop>
+    ensures { Gives (λ x. (x.0, words_of x.1.now)) result (seed_value_at (words_of text.now)) }
+{
+    let (value, rest) = number_at(text, 0xffff_ffff, Expected::Seed)?;
+    Ok((Seed::Given(value as u32), rest))
+}
+
+/// The address of a seed, after the word `at`.
+fn seed_address_at(text: &[u8]) -> Result<(Seed, &[u8]), Stop>
+    ensures { Gives (λ x. (x.0, words_of x.1.now)) result (seed_address_at (words_of text.now)) }
+{
+    let (address, rest) = number_at(text, u64::MAX, Expected::Number)?;
+    Ok((Seed::At(address), rest))
+}
+
+/// A seed, after its name.
+fn seed_after_name(text: &[u8]) -> Result<(Seed, &[u8]), Stop>
+    ensures { Gives (λ x. (x.0, words_of x.1.now)) result
+        (seed_by (words_of text.now) (after (codes "at") (words_of text.now))) }
+{
+    match after(text, b"at", Expected::Seed) {
+        Ok(address) => seed_address_at(address),
+        Err(_) => seed_value_at(text),
+    }
+}
+
+/// The seed of a checksum: 0, if it is left out.
+#[tactic(auto, unfolding(crate::specs::Grammar::seed_at))]
+fn seed_at(text: &[u8]) -> Result<(Seed, &[u8]), Stop>
+    ensures { Gives (λ x. (x.0, words_of x.1.now)) result (seed_at (words_of text.now)) }
+{
+    match named(text, b"seed", Expected::Seed) {
+        Ok(seed) => seed_after_name(seed),
+        Err(_) => Ok((Seed::Given(0), text)),
+    }
+}
+
+/// A CRC generation, after its name.
+#[tactic(auto, unfolding(crate::specs::Grammar::crc_at))]
+fn crc_at(text: &[u8]) -> Result<(LineOp, u32, &[u8]), Stop>
+    ensures { Gives (λ x. (x.0, x.1, words_of x.2.now)) result (crc_at (words_of text.now)) }
+{
+    let (src, rest) = number_at(text, u64::MAX, Expected::Number)?;
+    let rest = after(rest, b",", Expected::Comma)?;
+    let (size, rest) = size_at(rest)?;
+    let (seed, rest) = seed_at(rest)?;
+    Ok((LineOp::Checksum(ChecksumOp::Crc { src, seed }), size, rest))
+}
+
+/// A copy with CRC, after its name.
+#[tactic(auto, unfolding(crate::specs::Grammar::copy_crc_at))]
+fn copy_crc_at(text: &[u8]) -> Result<(LineOp, u32, &[u8]), Stop>
+    ensures { Gives (λ x. (x.0, x.1, words_of x.2.now)) result (copy_crc_at (words_of text.now)) }
+{
+    let (src, rest) = number_at(text, u64::MAX, Expected::Number)?;
+    let rest = after(rest, b"->", Expected::Arrow)?;
+    let (dst, rest) = number_at(rest, u64::MAX, Expected::Number)?;
+    let rest = after(rest, b",", Expected::Comma)?;
+    let (size, rest) = size_at(rest)?;
+    let (seed, rest) = seed_at(rest)?;
+    let op = ChecksumOp::CopyCrc { src, dst, seed };
+    Ok((LineOp::Checksum(op), size, rest))
 }
 
 /// The operation that a line begins with, its size, and what comes after it.
 #[tactic(auto, unfolding(crate::specs::Grammar::op_at))]
-pub(crate) fn op_at(text: &[u8]) -> Result<(Op, u32, &[u8]), Stop>
+pub(crate) fn op_at(text: &[u8]) -> Result<(LineOp, u32, &[u8]), Stop>
     ensures { Gives (λ x. (x.0, x.1, words_of x.2.now)) result (op_at (words_of text.now)) }
 {
     let Some((word, rest)) = next_word(text) else {
@@ -158,6 +236,12 @@ pub(crate) fn op_at(text: &[u8]) -> Result<(Op, u32, &[u8]), Stop>
     }
     if word == b"dualcast".as_slice() {
         return dualcast_at(rest);
+    }
+    if word == b"crc".as_slice() {
+        return crc_at(rest);
+    }
+    if word == b"copy_crc".as_slice() {
+        return copy_crc_at(rest);
     }
     Err(Stop::at(text, Expected::Operation))
 }

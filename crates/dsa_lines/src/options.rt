@@ -2,12 +2,14 @@
 
 ghost use Rattle.std.specs.Prelude.{◌≡◌};
 ghost use Rattle.dsa_lines.specs.Words.{words_of};
-ghost use Rattle.dsa_lines.specs.Options.{flags_with, no_options, or_zero};
+ghost use Rattle.dsa_lines.specs.Options.{flags_with, line_flags, no_options, or_zero, seed_flag};
 ghost use Rattle.dsa_lines.specs.Grammar.{Gives, pasid_at, privileged_at, check_at, flags_at, handle_at, option_at, options_at};
 
 use crate::fault::{Expected, Stop};
+use crate::operations::LineOp;
 use crate::reading::{after, number_at};
 use crate::words::{is_over, next_word};
+use dsa_operations::{ChecksumOp, Seed};
 
 /// The flags that each operation of a list has: record address valid, and request record.
 pub(crate) const REQUIRED_FLAGS: u32 = 0x00_000c;
@@ -18,8 +20,21 @@ pub(crate) const CARRIED_FLAGS: u32 = 0x06_ff22;
 /// The flag check result.
 pub(crate) const CHECK_RESULT: u32 = 0x00_0080;
 
+/// The flag that a seed is read from memory.
+const SEED_IN_MEMORY: u32 = 0x01_0000;
+
 /// The most options that a line may have.
 const MOST_OPTIONS: usize = 5;
+
+/// The flag of a seed.
+fn seed_flag(seed: Seed) -> u32
+    ensures { result ≡ seed_flag seed }
+{
+    match seed {
+        Seed::Given(_) => 0,
+        Seed::At(_) => SEED_IN_MEMORY,
+    }
+}
 
 /// The options of a line.
 #[derive(Clone, Copy)]
@@ -76,11 +91,22 @@ impl Options {
     }
 
     /// The flags that the options give: the required ones, those under `flags`, and check result.
-    pub(crate) fn flag_bits(self) -> u32
+    fn flag_bits(self) -> u32
         ensures { result ≡ flags_with (or_zero self.flags) self.check }
     {
         let check = if self.check { CHECK_RESULT } else { 0 };
         REQUIRED_FLAGS | self.carried() | check
+    }
+
+    /// All flags of the line of an operation: for a checksum, that of its seed too.
+    pub(crate) fn line_flags(self, op: LineOp) -> u32
+        ensures { result ≡ line_flags op (or_zero self.flags) self.check }
+    {
+        match op {
+            LineOp::Descriptor(_) => self.flag_bits(),
+            LineOp::Checksum(ChecksumOp::Crc { seed, .. } | ChecksumOp::CopyCrc { seed, .. }) =>
+                self.flag_bits() | seed_flag(seed),
+        }
     }
 }
 

@@ -1,14 +1,13 @@
 //! Reading a line, word by word.
 
 ghost use Rattle.std.specs.Prelude.{◌≡◌, ◌<◌, ◌≤◌, ◌^◌, IfOk, Ok};
-ghost use Rattle.dsa_operations.specs.OperationFields.OperationFields.{OfDescriptor};
+ghost use Rattle.dsa_operations.specs.declared.operation.Operation.{Operation};
+ghost use Rattle.dsa_operations.specs.OperationFields.{operation_fields};
 ghost use Rattle.dsa_lines.specs.Words.{words_of};
 ghost use Rattle.dsa_lines.specs.Grammar.{Gives, after, named, number_at, count_at, pattern_at, fields_of, Spells};
 ghost use Rattle.dsa_lines.specs.Views.{view};
 ghost use Rattle.dsa_lines.specs.Text.{line_text};
 ghost use Rattle.dsa_lines.specs.Answers.{Answers, SpellsLine};
-ghost use Rattle.dsa_descriptor.specs.declared.descriptor.Descriptor.{Descriptor};
-ghost use Rattle.dsa_descriptor.specs.Descriptors.{fields};
 
 use crate::fault::{Expected, LineFault, Stop};
 use crate::line::Line;
@@ -16,7 +15,7 @@ use crate::numbers::{number_of, pattern_of, size_of};
 use crate::operations::op_at;
 use crate::options::options_at;
 use crate::words::{is_over, next_word};
-use dsa_descriptor::Descriptor;
+use dsa_operations::Operation;
 
 /// What comes after this word.
 pub(crate) fn after<'a>(text: &'a [u8], word: &[u8], expected: Expected) -> Result<&'a [u8], Stop>
@@ -103,7 +102,7 @@ pub(crate) fn read_line(text: &[u8]) -> Result<Line, Stop>
     Ok(Line {
         pasid: options.pasid_or_zero(),
         privileged: options.privileged,
-        flags: options.flag_bits(),
+        flags: options.line_flags(op),
         record_at,
         size,
         int_handle: options.handle_or_zero(),
@@ -111,7 +110,7 @@ pub(crate) fn read_line(text: &[u8]) -> Result<Line, Stop>
     })
 }
 
-/// The 64 bytes of the fields that a line spells, which may be no listed descriptor; none if it has no words.
+/// The 64 bytes of the fields that a line spells, which a list may not have; none if it has no words.
 /// A text with a newline is no line.
 ///
 /// # Errors
@@ -128,32 +127,32 @@ pub fn line_bytes(text: &[u8]) -> Result<Option<[u8; 64]>, (usize, Expected)>
     }
 }
 
-/// The descriptor that a line with words spells.
-fn descriptor_of(text: &[u8]) -> Result<Descriptor, LineFault>
+/// The operation that a line with words spells.
+fn operation_of(text: &[u8]) -> Result<Operation, LineFault>
     ensures gives { Answers (fields_of (words_of text.now)) result }
-    ensures only { (d : Descriptor) → Spells text.now (fields d) → result ≡ Ok d }
+    ensures only { (o : Operation) → Spells text.now (operation_fields o) → result ≡ Ok o }
 {
     let line = match read_line(text) {
         Ok(line) => line,
         Err(stop) => return Err(LineFault::Grammar(stop.column(text), stop.expected)),
     };
-    match Descriptor::read(&line.bytes()) {
-        Ok(d) => Ok(d),
+    match Operation::read(&line.bytes()) {
+        Ok(operation) => Ok(operation),
         Err(fault) => Err(LineFault::Field(fault)),
     }
 }
 
-/// The descriptor that a line spells. A text with a newline is no line.
+/// The operation that a line spells. A text with a newline is no line.
 ///
 /// # Errors
 /// Where the line leaves the grammar, or the first fault of the bytes of its fields.
-pub fn parse_line(text: &[u8]) -> Result<Descriptor, LineFault>
-    // The descriptor that the line spells, the first fault of its fields, or that it spells none.
+pub fn parse_line(text: &[u8]) -> Result<Operation, LineFault>
+    // The operation that the line spells, the first fault of its fields, or that it spells none.
     ensures gives { Answers (fields_of (words_of text.now)) result }
     // What the line spells is read.
-    ensures only { (d : Descriptor) → Spells text.now (fields d) → result ≡ Ok d }
+    ensures only { (o : Operation) → Spells text.now (operation_fields o) → result ≡ Ok o }
     // The canonical line is read back.
-    ensures again { (d : Descriptor) → text.now ≡ line_text (OfDescriptor (fields d)) → result ≡ Ok d }
+    ensures again { (o : Operation) → text.now ≡ line_text (operation_fields o) → result ≡ Ok o }
 {
-    descriptor_of(text)
+    operation_of(text)
 }

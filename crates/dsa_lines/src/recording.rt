@@ -29,7 +29,7 @@ pub(crate) struct BatchLine {
 pub(crate) enum Recorded {
     /// That a batch was submitted.
     Batch(BatchLine),
-    /// The bytes of a descriptor.
+    /// The bytes of an operation.
     Entry([u8; 64]),
 }
 
@@ -62,7 +62,7 @@ pub(crate) fn batch_at(text: &[u8]) -> Result<BatchLine, Stop>
     at_end(batch, rest)
 }
 
-/// The bytes of a descriptor.
+/// The bytes of an operation.
 fn entry_at(text: &[u8]) -> Result<[u8; 64], Stop>
     ensures { Gives (λ x. x) result (entry_at (words_of text.now)) }
 {
@@ -70,12 +70,13 @@ fn entry_at(text: &[u8]) -> Result<[u8; 64], Stop>
     Ok(line.bytes())
 }
 
-/// The bytes of a fenced descriptor.
+/// The bytes of a fenced operation.
 fn fenced_at(text: &[u8]) -> Result<[u8; 64], Stop>
     ensures { Gives (λ x. x) result (fenced_at (words_of text.now)) }
 {
-    let line = read_line(text)?;
-    Ok(line.fenced().bytes())
+    let mut bytes = entry_at(text)?;
+    bytes[4] |= 1;
+    Ok(bytes)
 }
 
 /// What a line with words says.
@@ -111,7 +112,7 @@ fn recorded_line(text: &[u8]) -> Result<Option<Recorded>, (usize, Expected)>
     }
 }
 
-/// The owner of a descriptor.
+/// The owner of an operation.
 fn owner_of(entry: &[u8; 64]) -> [u8; 4]
     ensures { result ≡ take 4 entry.now }
 {
@@ -185,7 +186,7 @@ fn push_recorded(
 }
 
 /// The bytes of a recording that is written as lines: the lines of a portal, with those of the members of a batch, as a
-/// staging area has them, after the line of the batch. The entry of a batch gets the owner of the descriptor after it.
+/// staging area has them, after the line of the batch. The entry of a batch gets the owner of the operation after it.
 ///
 /// # Errors
 /// The first line that leaves the grammar; [`TextFault::Memory`] at the first allocation that fails.

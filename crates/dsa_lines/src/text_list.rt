@@ -1,8 +1,8 @@
 //! What a text lists, from one walk over its lines.
 
 ghost use Rattle.std.specs.Prelude.{◌≡◌, [], ◌∷◌, ◌++◌, IfErr, IfOk, OnOk, map};
-ghost use Rattle.dsa_descriptor.specs.Descriptors.{fields};
-ghost use Rattle.dsa_descriptor.specs.Lists.{list_spelling};
+ghost use Rattle.std.specs.List.{flat_map};
+ghost use Rattle.dsa_operations.specs.Operations.{spelling_of};
 ghost use Rattle.dsa_lines.specs.Assembled.{Assembles, IsTextFault};
 ghost use Rattle.dsa_lines.specs.Barriers.{barriers_of};
 ghost use Rattle.dsa_lines.specs.TextLists.{Gathers, NamesLine, OneLineEach, PushesLine, line_number, line_shown, operation_lines};
@@ -11,7 +11,8 @@ ghost use Rattle.dsa_lines.specs.Texts.{lines_of};
 use crate::fault::TextFault;
 use crate::lines::line_len;
 use crate::list_line::{ListLine, list_line};
-use dsa_descriptor::{DescriptorList, ListFault, kept_marks, read_list};
+use dsa_descriptor::{ListFault, kept_marks, read_entries};
+use dsa_operations::{Operation, OperationList};
 use std::alloc::{AllocError, Global};
 
 /// The line of an operation.
@@ -29,7 +30,7 @@ pub struct OperationLine<'a> {
 #[derive(Drop)]
 pub struct TextList<'a> {
     /// The operations with their barriers.
-    pub list: DescriptorList,
+    pub list: OperationList,
     /// The line of each operation.
     pub lines: Vec<OperationLine<'a>>,
 }
@@ -149,14 +150,14 @@ pub(crate) fn text_fault(lines: &[OperationLine<'_>], fault: ListFault) -> TextF
 /// before the first operation says nothing. The line of a batch is passed over, since a plan has batches of its own.
 ///
 /// # Errors
-/// The first line that leaves the grammar; else the first fault of the operations as a list, as [`read_list`] reports
+/// The first line that leaves the grammar; else the first fault of the operations as a list, as [`read_entries`] reports
 /// it; [`TextFault::Memory`] at the first allocation that fails.
 pub fn parse_text<'a>(
     alloc: Global,
     text: &'a [u8],
     keep_fences: bool,
 ) -> Result<TextList<'a>, TextFault>
-    ensures answer { Assembles (λ read. list_spelling (map fields read.list.descriptors.items))
+    ensures answer { Assembles (λ read. flat_map spelling_of read.list.entries.items)
         (lines_of text.now) result }
     ensures barriers { IfOk result
         (λ read. read.list.barriers.items ≡ barriers_of keep_fences (lines_of text.now)) }
@@ -173,12 +174,12 @@ pub fn parse_text<'a>(
         Ok(gathered) => gathered,
         Err(fault) => return Err(fault),
     };
-    let descriptors = match read_list(alloc, bytes.as_slice()) {
-        Ok(descriptors) => descriptors,
+    let read = match read_entries::<Operation>(alloc, bytes.as_slice()) {
+        Ok(read) => read,
         Err(fault) => return Err(text_fault(&lines, fault)),
     };
-    let list = DescriptorList {
-        descriptors,
+    let list = OperationList {
+        entries: read.entries,
         barriers: kept_marks(alloc, marks),
     };
     Ok(TextList { list, lines })

@@ -1,9 +1,7 @@
 -- What the reader's answers say of all that it might have answered, and that operations are entries of a list.
-use Rattle.std.proofs.Common.{◌≡◌, ◌≢◌, ℕ, ◌*◌, ◌/◌, ◌%◌, ◌^◌, ◌<◌, List, Some, None, false, eqb, get_or, length, refl, ap, arith}
+use Rattle.std.proofs.Common.{◌≡◌, ◌≢◌, ℕ, ◌*◌, ◌/◌, ◌%◌, ◌^◌, ◌<◌, List, Some, None, false, eqb, get_or, length, refl, arith}
 use Rattle.std.specs.Prelude.{Option}
-use Rattle.std.specs.Int.{bit_at}
 use Rattle.std.proofs.lemmas.Bool.{ne_eqb}
-use Rattle.std.proofs.lemmas.Nat.Bits.{bit_at_and, bit_at_lowest, bit_at-zero}
 use Rattle.dsa_descriptor.specs.declared.fault.FieldFault.{FieldFault}
 use Rattle.dsa_descriptor.specs.declared.fault.FieldFault.TheVariants.{FlagBits, Reserved}
 use Rattle.dsa_descriptor.specs.Descriptors.{fields}
@@ -21,11 +19,11 @@ use Rattle.dsa_operations.specs.Checksums.{checksum_fields}
 use Rattle.dsa_operations.specs.Faults.{IsFirstBroken, IsFirstOperationFault, IsReservedZero, OperationKeeps}
 use Rattle.dsa_operations.specs.Operations.{spelling_of}
 use Rattle.dsa_operations.specs.Places.{checksum_at}
-use Rattle.dsa_operations.specs.Profile.{refused_flags, AreListedFlags}
+use Rattle.dsa_operations.specs.Profile.{AreListedFlags}
 use Rattle.dsa_operations.specs.Spelling.{checksum_spelling}
 use Rattle.dsa_operations.proofs.Kept.{rules}
 use Rattle.dsa_operations.proofs.Same.{descriptor_fits, low_word, one_spelling}
-use Rattle.dsa_operations.proofs.Spelt.{checksum_code, listed_fits, op_there, stands}
+use Rattle.dsa_operations.proofs.Spelt.{checksum_code, listed_fits, no_fence, op_there, stands}
 
 -- ---- what is a first fault
 
@@ -69,9 +67,6 @@ spelling_is_kept (operation.Checksum c) f =
 length-spelling_of : (o : Operation) → length (spelling_of o) ≡ 64
 length-spelling_of (operation.Descriptor d) = length-spelling d
 length-spelling_of (operation.Checksum c) = (stands (checksum_fields c) (listed_fits (checksum_fields c) c.listed)).long
-
-no_fence : (flags : ℕ) → AreListedFlags flags → flags % 2 ≡ 0
-no_fence flags listed = omega (arith, bit_at_and flags refused_flags 0, ap (λ (n : ℕ). bit_at n 0) listed.refused, bit_at_lowest flags, bit_at-zero 0)
 
 -- bytes that keep each rule have no fence
 no_fence_kept : (bytes : List ℕ) (found : Option ChecksumOp) → checksum_at bytes ≡ found → ((fault : FieldFault) → OperationKeeps bytes fault) → get_or bytes 4 0 % 2 ≡ 0

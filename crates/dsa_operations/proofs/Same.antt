@@ -1,5 +1,5 @@
 -- Fields that fit their places are known by their bytes, listed or not, so two operations with one spelling are equal.
-use Rattle.std.proofs.Common.{◌≡◌, ℕ, ◌+◌, ◌*◌, ◌^◌, ◌<◌, Bool, true, false, cond, List, length, Some, refl, sym, ap, subst, ◌∙◌, arith}
+use Rattle.std.proofs.Common.{◌≡◌, ℕ, ◌+◌, ◌*◌, ◌%◌, ◌^◌, ◌<◌, Bool, true, false, cond, List, length, Some, refl, sym, ap, subst, ◌∙◌, arith}
 use Rattle.std.proofs.lemmas.Option.{same_Some}
 use mathlib.Core.HLevel.{is_prop→PathP}
 use Rattle.dsa_descriptor.specs.declared.op.Op.{Op}
@@ -7,11 +7,12 @@ use Rattle.dsa_descriptor.specs.declared.op.Op.TheVariants.{Move, Fill, Compare,
 use Rattle.dsa_descriptor.specs.Descriptors.{fields}
 use Rattle.dsa_descriptor.specs.Fields.{Fields}
 use Rattle.dsa_descriptor.specs.Operands as operands
-use Rattle.dsa_descriptor.specs.Places.{u32_at, op_at}
+use Rattle.dsa_descriptor.specs.Places.{u32_at, flags_at, op_at}
 use Rattle.dsa_descriptor.specs.Profile as descriptors
 use Rattle.dsa_descriptor.specs.Spelling.{spelling}
 use Rattle.dsa_descriptor.specs.Spelling as descriptor_words
 use Rattle.dsa_descriptor.proofs.Back as back
+use Rattle.dsa_descriptor.proofs.Masks as masks
 use Rattle.dsa_descriptor.proofs.Same.{same_descriptor}
 use Rattle.dsa_operations.specs.declared.checksum.Checksum.{Checksum}
 use Rattle.dsa_operations.specs.declared.operation.Operation.{Operation}
@@ -25,7 +26,7 @@ use Rattle.dsa_operations.specs.Operations.{spelling_of}
 use Rattle.dsa_operations.specs.Profile.{IsListedChecksum}
 use Rattle.dsa_operations.specs.ProfileProps.{IsListedChecksum-prop}
 use Rattle.dsa_operations.specs.Spelling.{checksum_spelling}
-use Rattle.dsa_operations.proofs.Spelt.{Fits, Stands, code-le, listed_fits, op_there, stands}
+use Rattle.dsa_operations.proofs.Spelt.{Fits, Stands, code-le, flags_there, listed_fits, no_fence, op_there, stands}
 
 -- the parts of the word of the PASID and the privilege
 same_owner : (p q : ℕ) (a b : Bool) → p < 2 ^ 20 → q < 2 ^ 20 → p + cond a (2 ^ 31) 0 ≡ q + cond b (2 ^ 31) 0 → (p ≡ q) × (a ≡ b)
@@ -149,6 +150,15 @@ pub long_fields : (f : OperationFields) → AreFitting f → length (fields_spel
 long_fields (OfDescriptor f) h = (descriptor_stands f h).long
 long_fields (OfChecksum f) h = (stands f h).long
 
+-- the flags of an operation, at their place
+abbrev pub flags_of : OperationFields → ℕ
+flags_of (OfDescriptor f) = f.flags
+flags_of (OfChecksum f) = f.flags
+
+pub flags_spelt : (f : OperationFields) → AreFitting f → flags_at (fields_spelling f) ≡ flags_of f
+flags_spelt (OfDescriptor f) h = omega (arith, (descriptor_stands f h).operation_there, h.flags_fit)
+flags_spelt (OfChecksum f) h = flags_there f (checksum_spelling f) h (stands f h)
+
 -- fields that fit and have one spelling are equal
 pub same_fields : (f g : OperationFields) → AreFitting f → AreFitting g → fields_spelling f ≡ fields_spelling g → f ≡ g
 same_fields (OfDescriptor f) (OfDescriptor g) p q h = ap OfDescriptor (same_descriptors f g p q h)
@@ -162,6 +172,14 @@ same_fields (OfChecksum f) (OfChecksum g) p q h = ap OfChecksum (same_checksums 
 pub listed_of : (o : Operation) → AreListedFields (operation_fields o)
 listed_of (operation.Descriptor d) = d.listed
 listed_of (operation.Checksum c) = c.listed
+
+pub operation_fits : (o : Operation) → AreFitting (operation_fields o)
+operation_fits o = listed_fitting (operation_fields o) (listed_of o)
+
+-- it has no fence
+pub operation_plain : (o : Operation) → flags_of (operation_fields o) % 2 ≡ 0
+operation_plain (operation.Descriptor d) = masks.no_fence (fields d) d.listed
+operation_plain (operation.Checksum c) = no_fence c.flags.0 c.listed.flags_listed
 
 -- checksums with equal fields are equal
 same_checksum : (c d : Checksum) → checksum_fields c ≡ checksum_fields d → c ≡ d
@@ -190,5 +208,4 @@ same_operation (operation.Checksum c) (operation.Descriptor d) h = absurd cc
 same_operation (operation.Checksum c) (operation.Checksum d) h = ap operation.Checksum (same_checksum c d (same_in_checksum (checksum_fields c) (checksum_fields d) h))
 
 pub one_spelling : (o p : Operation) → spelling_of o ≡ spelling_of p → o ≡ p
-one_spelling o p h =
-    same_operation o p (same_fields (operation_fields o) (operation_fields p) (listed_fitting (operation_fields o) (listed_of o)) (listed_fitting (operation_fields p) (listed_of p)) h)
+one_spelling o p h = same_operation o p (same_fields (operation_fields o) (operation_fields p) (operation_fits o) (operation_fits p) h)

@@ -1,6 +1,8 @@
 -- What is at each place of the spelling of a checksum.
-use Rattle.std.proofs.Common.{◌≡◌, ◌≢◌, get_or, ℕ, ◌+◌, ◌/◌, ◌^◌, ◌<◌, ◌≤◌, List, length, Some, Bool, true, false, cond, refl, arith}
+use Rattle.std.proofs.Common.{◌≡◌, ◌≢◌, get_or, ℕ, ◌+◌, ◌/◌, ◌%◌, ◌^◌, ◌<◌, ◌≤◌, ap, List, length, Some, Bool, true, false, cond, refl, arith}
 use Rattle.std.proofs.lemmas.Nat.{from_le_bytes-to_le_bytes_2, from_le_bytes-to_le_bytes_4, from_le_bytes-to_le_bytes_8}
+use Rattle.std.specs.Int.{bit_at}
+use Rattle.std.proofs.lemmas.Nat.Bits.{bit_at_and, bit_at_lowest, bit_at-zero}
 use Rattle.dsa_descriptor.specs.Places.{u16_at, u32_at, u64_at, flags_at}
 use Rattle.dsa_operations.specs.declared.checksum_op.ChecksumOp.{ChecksumOp}
 use Rattle.dsa_operations.specs.declared.checksum_op.ChecksumOp.TheVariants.{Crc, CopyCrc}
@@ -9,7 +11,7 @@ use Rattle.dsa_operations.specs.declared.checksum_op.Seed.TheVariants.{Given, At
 use Rattle.dsa_operations.specs.Fields.{ChecksumFields}
 use Rattle.dsa_operations.specs.Operands.{address_field, code_of, destination_field, given_field, given_value, is_in_memory, seed_address, seed_of, source_field}
 use Rattle.dsa_operations.specs.Places.{seed_at, checksum_at}
-use Rattle.dsa_operations.specs.Profile.{FieldsFit, IsListedChecksum, SeedFits, TellsSeed}
+use Rattle.dsa_operations.specs.Profile.{refused_flags, AreListedFlags, FieldsFit, IsListedChecksum, SeedFits, TellsSeed}
 use Rattle.dsa_operations.specs.Spelling.{checksum_spelling, operation_word, owner_word}
 
 pub record Stands (f : ChecksumFields) (bytes : List ℕ) : Type 0 where
@@ -106,6 +108,10 @@ checksum_code f h e =
     let high = code-le f.op in
     let fits : f.flags < 2 ^ 24 = h.flags_fit in
     absurd (omega (arith, e))
+
+-- listed flags have no fence
+pub no_fence : (flags : ℕ) → AreListedFlags flags → flags % 2 ≡ 0
+no_fence flags listed = omega (arith, bit_at_and flags refused_flags 0, ap (λ (n : ℕ). bit_at n 0) listed.refused, bit_at_lowest flags, bit_at-zero 0)
 
 -- ---- the operation that is read from these places
 

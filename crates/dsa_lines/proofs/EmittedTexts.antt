@@ -9,6 +9,7 @@ use Rattle.std.proofs.lemmas.List.Elements.{All-take, All-drop, All-replicate}
 use Rattle.std.proofs.lemmas.Nat.{from_le_bytes-to_le_bytes_8}
 use Rattle.dsa_descriptor.specs.declared.descriptor.Descriptor.{Descriptor}
 use Rattle.dsa_descriptor.specs.Descriptors.{fields}
+use Rattle.dsa_descriptor.specs.Fences.{fenced}
 use Rattle.dsa_descriptor.specs.Fields.{Fields}
 use Rattle.dsa_descriptor.specs.Lists.{entries, entry}
 use Rattle.dsa_descriptor.specs.Places.{u64_at}
@@ -17,7 +18,7 @@ use Rattle.dsa_descriptor.proofs.Entries.{length-chunks}
 use Rattle.dsa_settings.specs.Plan.{Group, Plan}
 use Rattle.dsa_settings.specs.Settings.{Limits, AreInLimits}
 use Rattle.dsa_emission.specs.declared.place.Place.{Place}
-use Rattle.dsa_descriptor.proofs.Fenced.{fenced_alike}
+use Rattle.dsa_operations.specs.declared.operation.Operation.TheVariants as operation
 use Rattle.dsa_emission.specs.Emission.{batched, batch_count, batched_count, place_of, batch_spelling, portal_entry, fenced_spelling, staged, joined, portal_bytes, staging_bytes, CanBeEmitted}
 use Rattle.dsa_emission.specs.EmissionLaws.{StandsAtPlaces}
 use Rattle.dsa_emission.proofs.AtPlaces.{emission_at_places}
@@ -68,7 +69,7 @@ group_there s total place g ds bytes limits fits a b c e =
           )
       | inr few ↦
           let (d, is, at) = lone_entry_is s total place g ds fits (omega (arith, fits.nonempty)) in
-          (Lone d, e ∙ is, tt)
+          (Lone (operation.Descriptor d), e ∙ is, tt)
     ]
 
 -- entries that each submit something known
@@ -102,8 +103,8 @@ fenced_pieces [] es within = ([], refl, refl)
 fenced_pieces (x ∷ g) [] within = absurd (omega arith)
 fenced_pieces (x ∷ g) (e ∷ es) within =
     let later = fenced_pieces g es (omega arith) in
-    let p : StagedPiece = record { fence = x; piece = e } in
-    (p ∷ later.0, (λ i. fenced_alike e x i ++ later.1 i), omega (arith, later.2))
+    let p : StagedPiece = record { fence = x; piece = operation.Descriptor e } in
+    (p ∷ later.0, ap (λ (b : List ℕ). fenced x (spelling (fields e)) ++ b) later.1, omega (arith, later.2))
 
 -- the pieces that a group has there
 group_pieces : (place : Place) (g : Group) (ds : List Descriptor) → Fits place g ds → (ps : List StagedPiece) × (staged place g (map fields ds) ≡ flat_map staged_bytes ps) × (length ps ≡ batched g)

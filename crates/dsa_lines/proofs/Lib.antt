@@ -8,6 +8,7 @@ pub mod TextLemmas
 pub mod RecordingLemmas
 pub mod AnswerLemmas
 pub mod OneText
+pub mod FencedOperations
 pub mod EmittedLemmas
 pub mod PortalLemmas
 pub mod StagingLemmas

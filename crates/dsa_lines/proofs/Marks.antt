@@ -1,5 +1,5 @@
 -- The barriers of a text, and lists with barriers.
-use Rattle.std.proofs.Common.{◌≡◌, ◌≢◌, ℕ, zero, suc, ◌+◌, ◌%◌, ◌<◌, Bool, true, false, Some, List, [], ◌∷◌, ◌++◌, length, take, drop, get_or, map, refl, sym, ap, ◌∙◌, append_assoc, length-append, arith}
+use Rattle.std.proofs.Common.{◌≡◌, ◌≢◌, ℕ, zero, suc, ◌+◌, ◌<◌, Bool, true, false, Some, List, [], ◌∷◌, ◌++◌, length, take, drop, get_or, map, refl, sym, ap, ◌∙◌, append_assoc, length-append, arith}
 use Rattle.std.specs.Prelude.{codes, slice_get, if◌then◌else◌}
 use Rattle.std.specs.List.{AllByRecursion, flat_map}
 use Rattle.std.specs.Str.{bytes_eq}
@@ -8,13 +8,10 @@ use Rattle.std.proofs.lemmas.Option.{same_Some}
 use Rattle.dsa_descriptor.proofs.Marked.{dropped}
 use Rattle.dsa_descriptor.specs.Lists.{AreOfOneOwner}
 use Rattle.dsa_descriptor.proofs.Seen.{barriers_count}
-use Rattle.dsa_descriptor.specs.Fences.{fenced, fenced_entries, is_fenced, unfenced}
-use Rattle.dsa_descriptor.proofs.Fenced.{fenced_is, length-fenced, unfenced_fenced}
+use Rattle.dsa_descriptor.specs.Fences.{fenced, fenced_entries}
 use Rattle.dsa_operations.specs.declared.operation.Operation.{Operation as AnyOperation}
 use Rattle.dsa_operations.specs.OperationFields.{OperationFields, AreListedFields, operation_fields}
 use Rattle.dsa_operations.specs.Operations.{spelling_of}
-use Rattle.dsa_operations.proofs.Answered.{are_operations}
-use Rattle.dsa_operations.proofs.Same.{one_spelling}
 use Rattle.dsa_lines.specs.Assembled.{IsListing}
 use Rattle.dsa_lines.specs.Words.{Word, words_in, words_of}
 use Rattle.dsa_lines.specs.Grammar.{fields_of, op_at, ◌>>=◌}
@@ -25,6 +22,7 @@ use Rattle.dsa_lines.specs.Barriers.{barrier_line, barriers_of, IsMarkedListing,
 use Rattle.dsa_lines.specs.Barriers.LineKind.{Other, Barrier, Fenced, Operation}
 use Rattle.dsa_lines.specs.TextLists.{numbered, operation_lines, OneLineEach}
 use Rattle.dsa_lines.proofs.WordLemmas.{same_word}
+use Rattle.dsa_lines.proofs.FencedOperations.{long_fenced, one_fenced}
 use Rattle.dsa_lines.proofs.LineLemmas.{canonical_is_line}
 use Rattle.dsa_lines.proofs.OneText.{bound, front, more_fields, spelled_is, spelled_list}
 use Rattle.dsa_lines.proofs.ReadAgain.{line_before, nothing}
@@ -239,20 +237,6 @@ marked_text_spells keep fs marks all e = (marked_spells fs marks all, marks_agai
 
 -- ---- the bytes of a list with barriers are those of no other
 
-plain_entry : (o : AnyOperation) → get_or (spelling_of o) 4 0 % 2 ≡ 0
-plain_entry o = are_operations.plain (spelling_of o) (are_operations.kept o)
-
-long_fenced : (o : AnyOperation) (m : Bool) → length (fenced m (spelling_of o)) ≡ 64
-long_fenced o m = length-fenced (spelling_of o) (are_operations.whole o) (plain_entry o) m
-
--- one entry and its mark
-one_entry : (o p : AnyOperation) (m n : Bool) → fenced m (spelling_of o) ≡ fenced n (spelling_of p) → (o ≡ p) × (m ≡ n)
-one_entry o p m n e = (
-  one_spelling o p
-      (sym (unfenced_fenced (spelling_of o) (are_operations.whole o) (plain_entry o) m) ∙ ap unfenced e ∙ unfenced_fenced (spelling_of p) (are_operations.whole p) (plain_entry p) n),
-  sym (fenced_is (spelling_of o) (are_operations.whole o) (plain_entry o) m) ∙ ap is_fenced e ∙ fenced_is (spelling_of p) (are_operations.whole p) (plain_entry p) n,
-)
-
 first_of : (o : AnyOperation) (m : Bool) (rest : List ℕ) → fenced m (spelling_of o) ++ rest ≡ [] → ⊥
 first_of o m rest e = absurd (omega (arith, ap length e, length-append (fenced m (spelling_of o)) rest, long_fenced o m))
 
@@ -268,10 +252,10 @@ one_marked_spelling (o ∷ os) (p ∷ ps) (m ∷ ms) [] a b e = absurd (omega ar
 one_marked_spelling (o ∷ os) (p ∷ ps) (m ∷ ms) (n ∷ ns) a b e =
     let parts = front (fenced m (spelling_of o)) (fenced_entries spelling_of os ms) (fenced n (spelling_of p)) (fenced_entries spelling_of ps ns)
     (long_fenced o m ∙ sym (long_fenced p n)) e in
-    let here = one_entry o p m n parts.0 in
+    let here = one_fenced o p m n parts.0 in
     let later = one_marked_spelling os ps ms ns (omega arith) (omega arith) parts.1 in
-    let same : o ≡ p = here.0 in
-    let marks : m ≡ n = here.1 in
+    let marks : m ≡ n = here.0 in
+    let same : o ≡ p = here.1 in
     let others : os ≡ ps = later.0 in
     let rest : ms ≡ ns = later.1 in
     (λ i. same i ∷ others i, λ i. marks i ∷ rest i)

@@ -8,24 +8,23 @@ use Rattle.std.specs.List.{AllZip}
 use Rattle.std.proofs.lemmas.Bool.{eqb-true}
 use Rattle.std.proofs.lemmas.List.{append-nil}
 use Rattle.std.proofs.lemmas.Option.{same_Some}
-use Rattle.dsa_descriptor.specs.declared.descriptor.Descriptor.{Descriptor}
 use Rattle.dsa_descriptor.specs.declared.fault.FieldFault.{FieldFault}
 use Rattle.dsa_descriptor.specs.declared.fault.FieldFault.TheVariants.{Opcode, FlagBits, Reserved, SizeZero, Wrap, RecordAlign, DualcastBits, Overlap, Delta, Expected, RecordMeetsData}
 use Rattle.dsa_descriptor.specs.declared.op.Op.{Op}
 use Rattle.dsa_descriptor.specs.declared.op.Op.TheVariants.{Move, Fill, Compare, ComparePattern, ApplyDelta, Dualcast}
-use Rattle.dsa_descriptor.specs.Descriptors.{fields}
-use Rattle.dsa_descriptor.specs.Fields.{Fields}
-use Rattle.dsa_descriptor.specs.Faults.{IsFirstFault, Keeps}
 use Rattle.dsa_descriptor.specs.Lists.{entries}
-use Rattle.dsa_descriptor.specs.Spelling.{spelling}
 use Rattle.dsa_descriptor.proofs.Rules.{first_is_one}
-use Rattle.dsa_descriptor.proofs.Listed.{code_told, fault_only}
-use Rattle.dsa_descriptor.proofs.Same.{one_spelling, same_descriptor}
+use Rattle.dsa_descriptor.proofs.Entries.{fault_by}
 use Rattle.dsa_emission.specs.declared.emission_fault.EmissionFault.TheVariants.{PortalLength}
 use Rattle.dsa_emission.specs.EmissionFaults.{is_batch_entry}
 use Rattle.dsa_operations.specs.declared.checksum_op.ChecksumOp.{ChecksumOp}
 use Rattle.dsa_operations.specs.declared.checksum_op.ChecksumOp.TheVariants.{Crc, CopyCrc}
-use Rattle.dsa_operations.specs.OperationFields.{OperationFields, AreListedFields}
+use Rattle.dsa_operations.specs.declared.operation.Operation.{Operation}
+use Rattle.dsa_operations.specs.Faults.{IsFirstOperationFault, OperationKeeps}
+use Rattle.dsa_operations.specs.OperationFields.{OperationFields, AreListedFields, operation_fields}
+use Rattle.dsa_operations.specs.Operations.{spelling_of}
+use Rattle.dsa_operations.proofs.Answered.{are_operations}
+use Rattle.dsa_operations.proofs.Same.{listed_of, one_spelling, same_operation}
 use Rattle.dsa_operations.specs.OperationFields.OperationFields.{OfDescriptor, OfChecksum}
 use Rattle.dsa_lines.specs.declared.fault.EmittedFault.{EmittedFault}
 use Rattle.dsa_lines.specs.declared.fault.EmittedFault.TheVariants.{Memory}
@@ -43,20 +42,24 @@ use Rattle.dsa_lines.proofs.EmittedLemmas.{only_memory, refused_for_length, whol
 
 -- ---- what an entry submits
 
--- the bytes of a descriptor are those of no batch
-pub no_batch : (bytes : List ℕ) (d : Descriptor) → bytes ≡ spelling (fields d) → is_batch_entry bytes ≡ true → ⊥
-no_batch bytes d e is = code_told (fields d) d.listed (ap (λ (b : List ℕ). get_or b 7 0) (sym e) ∙ eqb-true _ _ is)
+-- the bytes of an operation are those of no batch
+pub no_batch : (bytes : List ℕ) (o : Operation) → bytes ≡ spelling_of o → is_batch_entry bytes ≡ true → ⊥
+no_batch bytes o e is = are_operations.single o (ap (λ (b : List ℕ). get_or b 7 0) (sym e) ∙ eqb-true _ _ is)
+
+-- bytes with a fault are those of no operation
+pub no_operation : (bytes : List ℕ) (fault : FieldFault) (o : Operation) → IsFirstOperationFault bytes fault → bytes ≡ spelling_of o → ⊥
+no_operation bytes fault o first is = fault_by Operation spelling_of OperationKeeps are_operations bytes fault o first is
 
 batch_or_other : (bytes others : List ℕ) (fault : FieldFault) → is_batch_entry bytes ≡ true → (bytes ≡ others) × IsOther others fault → ⊥
 batch_or_other bytes others fault code is =
     let no : true ≡ false = sym code ∙ ap is_batch_entry is.0 ∙ is.1.no_batch in cc
 
-fault_of : (bytes others : List ℕ) (fault : FieldFault) → (bytes ≡ others) × IsOther others fault → IsFirstFault bytes fault
-fault_of bytes others fault is = subst (λ (b : List ℕ). IsFirstFault b fault) (sym is.0) is.1.fault_is
+fault_of : (bytes others : List ℕ) (fault : FieldFault) → (bytes ≡ others) × IsOther others fault → IsFirstOperationFault bytes fault
+fault_of bytes others fault is = subst (λ (b : List ℕ). IsFirstOperationFault b fault) (sym is.0) is.1.fault_is
 
 same_other : (b c : List ℕ) (f g : FieldFault) → b ≡ c → IsOther b f → IsOther c g → Other b f ≡ Other c g
 same_other b c f g e p q =
-    let fault : f ≡ g = first_is_one Keeps b f g p.fault_is (subst (λ (x : List ℕ). IsFirstFault x g) (sym e) q.fault_is) in
+    let fault : f ≡ g = first_is_one OperationKeeps b f g p.fault_is (subst (λ (x : List ℕ). IsFirstOperationFault x g) (sym e) q.fault_is) in
     λ i. Other (e i) (fault i)
 
 one_submission : (bytes : List ℕ) (s t : Submission) → Submits bytes s → Submits bytes t → s ≡ t
@@ -70,8 +73,8 @@ one_submission bytes (Lone d) (Batch c l r) p q = absurd (no_batch bytes d p q.c
 one_submission bytes (Lone d) (Lone e) p q = ap Lone (one_spelling d e (sym p ∙ q))
 one_submission bytes (Batch c l r) (Other b f) p q = absurd (batch_or_other bytes b f p.code q)
 one_submission bytes (Other b f) (Batch c l r) p q = absurd (batch_or_other bytes b f q.code p)
-one_submission bytes (Lone d) (Other b f) p q = absurd (fault_only bytes f d (fault_of bytes b f q) p)
-one_submission bytes (Other b f) (Lone d) p q = absurd (fault_only bytes f d (fault_of bytes b f p) q)
+one_submission bytes (Lone d) (Other b f) p q = absurd (no_operation bytes f d (fault_of bytes b f q) p)
+one_submission bytes (Other b f) (Lone d) p q = absurd (no_operation bytes f d (fault_of bytes b f p) q)
 one_submission bytes (Other b f) (Other c g) p q = same_other b c f g (sym p.0 ∙ q.0) p.1 q.1
 
 one_each : (es : List (List ℕ)) (ss ts : List Submission) → AllZip Submits es ss → AllZip Submits es ts → ss ≡ ts
@@ -176,17 +179,11 @@ line_begins (OfDescriptor f) = op_begins f.op f.size _
 line_begins (OfChecksum f) = checksum_begins f.op f.size _
 
 -- listed fields of one line are the same
-pub same_line_fields : (f g : OperationFields) → AreListedFields f → AreListedFields g → line_text f ≡ line_text g → f ≡ g
+same_line_fields : (f g : OperationFields) → AreListedFields f → AreListedFields g → line_text f ≡ line_text g → f ≡ g
 same_line_fields f g p q same = same_Some f g (sym (line_spells f p) ∙ ap (λ (t : List ℕ). fields_of (words_of t)) same ∙ line_spells g q)
 
-pub same_line : (d e : Descriptor) → line_text (OfDescriptor (fields d)) ≡ line_text (OfDescriptor (fields e)) → d ≡ e
-same_line d e same =
-    let h = same_line_fields (OfDescriptor (fields d)) (OfDescriptor (fields e)) d.listed e.listed same in
-    same_descriptor d e (ap descriptor_of h)
-  where
-    descriptor_of : OperationFields → Fields
-    descriptor_of (OfDescriptor f) = f
-    descriptor_of (OfChecksum f) = fields d
+pub same_line : (o p : Operation) → line_text (operation_fields o) ≡ line_text (operation_fields p) → o ≡ p
+same_line o p same = same_operation o p (same_line_fields (operation_fields o) (operation_fields p) (listed_of o) (listed_of p) same)
 
 pub other_line : (bytes : List ℕ) (fault : FieldFault) → length bytes ≡ 64 → IsBytes bytes → is_line (text_of (other_words bytes fault)) ≡ true
 other_line bytes fault long are = words_line (other_words bytes fault) (other_words_are bytes fault long are)
@@ -194,7 +191,7 @@ other_line bytes fault long are = words_line (other_words bytes fault) (other_wo
 pub submission_line : (bytes : List ℕ) (s : Submission) → Submits bytes s → is_line (submission_text s) ≡ true
 submission_line bytes (Batch c l r) p =
     words_line (batch_words c l r) (batch_words_are c l r (omega (arith, p.count_fits)) p.list_fits p.record_fits)
-submission_line bytes (Lone d) p = canonical_is_line (OfDescriptor (fields d)) d.listed
+submission_line bytes (Lone d) p = canonical_is_line (operation_fields d) (listed_of d)
 submission_line bytes (Other b f) p = other_line b f p.1.whole p.1.are_bytes
 
 -- no canonical line begins as that of other bytes does
@@ -237,15 +234,15 @@ same_submission bytes other (Batch c l r) (Batch c' l' r') p q e =
     let b : l ≡ l' = same_Some l l' (sym (hex_again l p.list_fits) ∙ ap (λ (ws : List Word). number_of (get_or ws 4 [])) words ∙ hex_again l' q.list_fits) in
     let d : r ≡ r' = same_Some r r' (sym (hex_again r p.record_fits) ∙ ap (λ (ws : List Word). number_of (get_or ws 7 [])) words ∙ hex_again r' q.record_fits) in
     λ i. Batch (a i) (b i) (d i)
-same_submission bytes other (Batch c l r) (Lone d) p q e = absurd ((line_begins (OfDescriptor (fields d))).0 (batch_begins c l r (line_text (OfDescriptor (fields d))) e))
-same_submission bytes other (Lone d) (Batch c l r) p q e = absurd ((line_begins (OfDescriptor (fields d))).0 (batch_begins c l r (line_text (OfDescriptor (fields d))) (sym e)))
+same_submission bytes other (Batch c l r) (Lone d) p q e = absurd ((line_begins (operation_fields d)).0 (batch_begins c l r (line_text (operation_fields d)) e))
+same_submission bytes other (Lone d) (Batch c l r) p q e = absurd ((line_begins (operation_fields d)).0 (batch_begins c l r (line_text (operation_fields d)) (sym e)))
 same_submission bytes other (Lone d) (Lone f) p q e = ap Lone (same_line d f e)
 same_submission bytes other (Batch c l r) (Other b f) p q e =
     let no : ◌≡◌ {A = ℕ} 98 117 = ap (λ (t : List ℕ). get_or t 0 0) e in absurd (omega arith)
 same_submission bytes other (Other b f) (Batch c l r) p q e =
     let no : ◌≡◌ {A = ℕ} 117 98 = ap (λ (t : List ℕ). get_or t 0 0) e in absurd (omega arith)
-same_submission bytes other (Lone d) (Other b f) p q e = absurd (no_unknown (OfDescriptor (fields d)) (other_begins b f (line_text (OfDescriptor (fields d))) (sym e)))
-same_submission bytes other (Other b f) (Lone d) p q e = absurd (no_unknown (OfDescriptor (fields d)) (other_begins b f (line_text (OfDescriptor (fields d))) e))
+same_submission bytes other (Lone d) (Other b f) p q e = absurd (no_unknown (operation_fields d) (other_begins b f (line_text (operation_fields d)) (sym e)))
+same_submission bytes other (Other b f) (Lone d) p q e = absurd (no_unknown (operation_fields d) (other_begins b f (line_text (operation_fields d)) e))
 same_submission bytes other (Other b f) (Other c g) p q e =
     same_other b c f g (same_other_bytes b c f g p.1.whole q.1.whole p.1.are_bytes q.1.are_bytes e) p.1 q.1
 

@@ -6,11 +6,10 @@ use Rattle.std.specs.List.{AllByRecursion, AllZip}
 use Rattle.std.specs.Str.{bytes_eq}
 use Rattle.std.proofs.Math.Nat.{mod-lt}
 use Rattle.std.proofs.lemmas.Bool.{ne_eqb}
-use Rattle.dsa_descriptor.specs.declared.descriptor.Descriptor.{Descriptor}
-use Rattle.dsa_descriptor.specs.Descriptors.{fields}
 use Rattle.dsa_descriptor.specs.Lists.{entries}
-use Rattle.dsa_operations.specs.OperationFields.{OperationFields, AreListedFields}
-use Rattle.dsa_operations.specs.OperationFields.OperationFields.{OfDescriptor}
+use Rattle.dsa_operations.specs.OperationFields.{OperationFields, AreListedFields, operation_fields}
+use Rattle.dsa_operations.specs.declared.operation.Operation.{Operation}
+use Rattle.dsa_operations.proofs.Same.{listed_of}
 use Rattle.dsa_lines.specs.Words.{Word, goes_on, words_in, words_of}
 use Rattle.dsa_lines.specs.Numbers.{hex}
 use Rattle.dsa_lines.specs.Grammar.{greatest, fields_of}
@@ -63,7 +62,7 @@ batch_none c l r a b d = rw (batch_again c l r a b d) refl
 submission_read : (bytes : List ℕ) (s : Submission) → Submits bytes s → IsKnown s → line_fields (words_of (submission_text s)) ≡ Some (lone_fields (s ∷ []))
 submission_read bytes (Batch c l r) p known =
     ap line_fields (batch_read c l r (omega (arith, p.count_fits)) p.list_fits p.record_fits) ∙ batch_none c l r p.count_fits p.list_fits p.record_fits
-submission_read bytes (Lone d) p known = spelt_line (words_of (line_text (OfDescriptor (fields d)))) (OfDescriptor (fields d)) (line_spells (OfDescriptor (fields d)) d.listed)
+submission_read bytes (Lone d) p known = spelt_line (words_of (line_text (operation_fields d))) (operation_fields d) (line_spells (operation_fields d) (listed_of d))
 submission_read bytes (Other b f) p known = absurd known
 
 lone_more : (s : Submission) (ss : List Submission) → lone_fields (s ∷ []) ++ lone_fields ss ≡ lone_fields (s ∷ ss)
@@ -92,16 +91,16 @@ fence_read : (words : List Word) (f : OperationFields) → fields_of words ≡ S
 unfolding line_fields
 fence_read words f e = rw e refl
 
-piece_read : (fence : Bool) (d : Descriptor) → line_fields (words_of (cond fence (codes "fence ") [] ++ line_text (OfDescriptor (fields d)))) ≡ Some (OfDescriptor (fields d) ∷ [])
-piece_read true d = ap line_fields (fence_front (line_text (OfDescriptor (fields d)))) ∙ fence_read (words_of (line_text (OfDescriptor (fields d)))) (OfDescriptor (fields d)) (line_spells (OfDescriptor (fields d)) d.listed)
-piece_read false d = spelt_line (words_of (line_text (OfDescriptor (fields d)))) (OfDescriptor (fields d)) (line_spells (OfDescriptor (fields d)) d.listed)
+piece_read : (fence : Bool) (d : Operation) → line_fields (words_of (cond fence (codes "fence ") [] ++ line_text (operation_fields d))) ≡ Some (operation_fields d ∷ [])
+piece_read true d = ap line_fields (fence_front (line_text (operation_fields d))) ∙ fence_read (words_of (line_text (operation_fields d))) (operation_fields d) (line_spells (operation_fields d) (listed_of d))
+piece_read false d = spelt_line (words_of (line_text (operation_fields d))) (operation_fields d) (line_spells (operation_fields d) (listed_of d))
 
-pieces_read : (ps : List StagedPiece) (rest : List ℕ) → all_fields (lines_of rest) ≡ Some [] → all_fields (lines_of (entries_text (map Piece ps) ++ rest)) ≡ Some (map (λ p. OfDescriptor (fields p.piece)) ps)
+pieces_read : (ps : List StagedPiece) (rest : List ℕ) → all_fields (lines_of rest) ≡ Some [] → all_fields (lines_of (entries_text (map Piece ps) ++ rest)) ≡ Some (map (λ p. operation_fields p.piece) ps)
 unfolding entries_text
 pieces_read [] rest e = e
 pieces_read (p ∷ ps) rest e =
     ap (λ (t : List ℕ). all_fields (lines_of t)) (append_assoc (piece_text p ++ 10 ∷ []) (entries_text (map Piece ps)) rest)
-    ∙ line_before (piece_text p) (entries_text (map Piece ps) ++ rest) (OfDescriptor (fields p.piece) ∷ []) (map (λ q. OfDescriptor (fields q.piece)) ps) (fenced_line p.fence p.piece) (piece_read p.fence p.piece) (pieces_read ps rest e)
+    ∙ line_before (piece_text p) (entries_text (map Piece ps) ++ rest) (operation_fields p.piece ∷ []) (map (λ q. operation_fields q.piece) ps) (fenced_line p.fence p.piece) (piece_read p.fence p.piece) (pieces_read ps rest e)
 
 -- ---- lines of digits
 
@@ -196,7 +195,7 @@ records_read batch address (r ∷ rs) all can =
     ∙ line_before (35 ∷ text) rest [] [] is (comment_read text is) (records_read (batch + 1) (address + 32) rs all.1 can.1)
 
 pub staging_is_read : (at : ℕ) (bytes : List ℕ) (ps : List StagedPiece) (rs : List (List ℕ)) → IsStaging bytes (map Piece ps) rs → AllByRecursion IsPlausible rs
-    → TextSpells (staging_text at (map Piece ps) rs) (map (λ p. OfDescriptor (fields p.piece)) ps)
+    → TextSpells (staging_text at (map Piece ps) rs) (map (λ p. operation_fields p.piece) ps)
 staging_is_read at bytes ps rs h can =
     let first : ℕ = at + 64 * length (map Piece ps) in
     pieces_read ps (records_text 0 first rs) (records_read 0 first rs h.each_record can)

@@ -1,16 +1,14 @@
 -- What is written of a portal or a staging area is read again as a recording.
-use Rattle.std.proofs.Common.{◌≡◌, ℕ, ◌+◌, ◌*◌, ◌^◌, ◌<◌, Bool, true, false, cond, Some, List, [], ◌∷◌, ◌++◌, length, refl, sym, ap, ◌∙◌, append_assoc, arith}
+use Rattle.std.proofs.Common.{◌≡◌, ℕ, ◌+◌, ◌*◌, ◌^◌, ◌<◌, Bool, true, false, cond, Some, List, [], ◌∷◌, ◌++◌, length, refl, ap, ◌∙◌, append_assoc, arith}
 use Rattle.std.specs.Prelude.{codes, map}
 use Rattle.std.specs.List.{AllByRecursion, AllZip, flat_map}
 use Rattle.std.specs.Str.{bytes_eq}
-use Rattle.dsa_descriptor.specs.declared.descriptor.Descriptor.{Descriptor}
-use Rattle.dsa_descriptor.specs.Descriptors.{fields}
 use Rattle.dsa_descriptor.specs.Lists.{entries}
-use Rattle.dsa_descriptor.specs.Spelling.{spelling}
-use Rattle.dsa_descriptor.specs.Fences.{fenced, with_fence}
-use Rattle.dsa_descriptor.proofs.Fenced.{fenced_alike, unfenced_same}
-use Rattle.dsa_operations.specs.OperationFields.{OperationFields, fields_spelling}
-use Rattle.dsa_operations.specs.OperationFields.OperationFields.{OfDescriptor}
+use Rattle.dsa_descriptor.specs.Fences.{fenced}
+use Rattle.dsa_operations.specs.OperationFields.{OperationFields, fields_spelling, operation_fields}
+use Rattle.dsa_operations.specs.Operations.{spelling_of}
+use Rattle.dsa_operations.specs.declared.operation.Operation.{Operation}
+use Rattle.dsa_operations.proofs.Same.{listed_of}
 use Rattle.dsa_lines.specs.declared.recording.Recorded.{Recorded}
 use Rattle.dsa_lines.specs.declared.recording.Recorded.TheVariants.{Batch as BatchSaid, Entry as EntrySaid}
 use Rattle.dsa_lines.specs.Words.{Word, words_in, words_of}
@@ -75,7 +73,7 @@ comment_said text e = rw (comment text e) refl
 submission_said : (bytes : List ℕ) (s : Submission) → Submits bytes s → IsKnown s → line_recorded (words_of (submission_text s)) ≡ Some (said_by (s ∷ []))
 submission_said bytes (Batch c l r) p known =
     ap line_recorded (batch_read c l r (omega (arith, p.count_fits)) p.list_fits p.record_fits) ∙ batch_said c l r p.count_fits p.list_fits p.record_fits
-submission_said bytes (Lone d) p known = entry_said (words_of (line_text (OfDescriptor (fields d)))) (OfDescriptor (fields d)) (line_spells (OfDescriptor (fields d)) d.listed)
+submission_said bytes (Lone d) p known = entry_said (words_of (line_text (operation_fields d))) (operation_fields d) (line_spells (operation_fields d) (listed_of d))
 submission_said bytes (Other b f) p known = absurd known
 
 said_more : (s : Submission) (ss : List Submission) → said_by (s ∷ []) ++ said_by ss ≡ said_by (s ∷ ss)
@@ -100,14 +98,12 @@ portal_is_recorded bytes ss p known = portal_said (entries bytes) ss p.each know
 abbrev entries_said : List StagedPiece → List Recorded
 entries_said ps = map (λ p. EntrySaid (staged_bytes p)) ps
 
-piece_said : (fence : Bool) (d : Descriptor)
-    → line_recorded (words_of (cond fence (codes "fence ") [] ++ line_text (OfDescriptor (fields d)))) ≡ Some (EntrySaid (spelling (with_fence fence (fields d))) ∷ [])
-piece_said true d =
-    ap line_recorded (fence_front (line_text (OfDescriptor (fields d)))) ∙ fence_said (words_of (line_text (OfDescriptor (fields d)))) (OfDescriptor (fields d)) (line_spells (OfDescriptor (fields d)) d.listed)
-    ∙ ap (λ (b : List ℕ). Some (EntrySaid b ∷ [])) (fenced_alike d true)
-piece_said false d =
-    entry_said (words_of (line_text (OfDescriptor (fields d)))) (OfDescriptor (fields d)) (line_spells (OfDescriptor (fields d)) d.listed)
-    ∙ ap (λ (b : List ℕ). Some (EntrySaid b ∷ [])) (sym (unfenced_same (fields d)))
+piece_said : (fence : Bool) (o : Operation)
+    → line_recorded (words_of (cond fence (codes "fence ") [] ++ line_text (operation_fields o))) ≡ Some (EntrySaid (fenced fence (spelling_of o)) ∷ [])
+piece_said true o =
+    ap line_recorded (fence_front (line_text (operation_fields o)))
+    ∙ fence_said (words_of (line_text (operation_fields o))) (operation_fields o) (line_spells (operation_fields o) (listed_of o))
+piece_said false o = entry_said (words_of (line_text (operation_fields o))) (operation_fields o) (line_spells (operation_fields o) (listed_of o))
 
 pieces_said : (ps : List StagedPiece) (rest : List ℕ) → all_recorded (lines_of rest) ≡ Some [] → all_recorded (lines_of (entries_text (map Piece ps) ++ rest)) ≡ Some (entries_said ps)
 unfolding entries_text

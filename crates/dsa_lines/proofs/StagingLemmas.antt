@@ -1,30 +1,26 @@
 -- The entries and records of a staging area are determined.
-use Rattle.std.proofs.Common.{◌≡◌, ℕ, ◌*◌, ◌%◌, ◌^◌, ◌<◌, ◌≤◌, Bool, true, false, inl, inr, List, [], ◌∷◌, ◌++◌, length, get_or, take, drop, refl, sym, ap, subst, ◌∙◌, bit_or, append_assoc, length-append, arith}
+use Rattle.std.proofs.Common.{◌≡◌, ℕ, ◌*◌, ◌%◌, ◌<◌, ◌≤◌, inl, inr, List, [], ◌∷◌, ◌++◌, length, get_or, take, drop, refl, sym, ap, subst, ◌∙◌, append_assoc, length-append, arith}
 use Rattle.std.specs.Prelude.{◌≢◌, ◌⊎◌, slice_range}
 use Rattle.std.specs.List.{AllByRecursion, concat, flat_map}
-use Rattle.std.proofs.lemmas.List.{take_at, drop_at, get_or_append_left, get_or-set_other, length-drop, take-append-le, drop-append-le}
-use Rattle.dsa_descriptor.specs.declared.descriptor.Descriptor.{Descriptor}
+use Rattle.std.proofs.lemmas.List.{take_at, drop_at, get_or_append_left, length-drop, take-append-le, drop-append-le}
 use Rattle.dsa_descriptor.specs.declared.fault.FieldFault.{FieldFault}
-use Rattle.dsa_descriptor.specs.declared.op.Op.{Op}
-use Rattle.dsa_descriptor.specs.declared.op.Op.TheVariants.{Move, Fill, Compare, ComparePattern, ApplyDelta, Dualcast}
-use Rattle.dsa_descriptor.specs.Descriptors.{fields}
-use Rattle.dsa_descriptor.specs.Faults.{AreZero, IsFirstFault, Keeps}
-use Rattle.dsa_descriptor.specs.Fields.{Fields}
-use Rattle.dsa_descriptor.specs.Operands.{code_of}
-use Rattle.dsa_descriptor.specs.Profile.{IsListed}
-use Rattle.dsa_descriptor.specs.Spelling.{spelling}
+use Rattle.dsa_descriptor.specs.Faults.{AreZero}
+use Rattle.dsa_descriptor.specs.Fences.{unfenced}
 use Rattle.dsa_descriptor.proofs.Rules.{first_is_one}
-use Rattle.dsa_descriptor.proofs.Listed.{fault_only}
-use Rattle.dsa_descriptor.specs.Fences.{unfenced, with_fence}
-use Rattle.dsa_descriptor.proofs.Fenced.{fenced_spelling_set, length-fenced_one, one_fenced, unfenced_same}
-use Rattle.dsa_emission.proofs.Spelt.{told_piece}
+use Rattle.dsa_emission.proofs.Spelt.{told_by}
+use Rattle.dsa_operations.specs.declared.operation.Operation.{Operation}
+use Rattle.dsa_operations.specs.Faults.{IsFirstOperationFault, OperationKeeps}
+use Rattle.dsa_operations.specs.Operations.{operation_kind}
+use Rattle.dsa_operations.proofs.Answered.{are_operations}
+use Rattle.dsa_lines.proofs.FencedOperations.{fenced_code, long_fenced, one_fenced}
+use Rattle.dsa_lines.proofs.PortalLemmas.{no_operation}
 use Rattle.dsa_lines.specs.Stagings.{StagedPiece, StagedEntry, IsNoPiece, Shows, BeginsRecord, IsEntry, IsRecord, IsStaging, staged_bytes, entry_bytes}
 use Rattle.dsa_lines.specs.Stagings.StagedEntry.{Piece, Other}
 
 -- ---- the bytes of a piece
 
 pub long_piece : (p : StagedPiece) → length (staged_bytes p) ≡ 64
-long_piece p = length-fenced_one (fields p.piece) p.fence p.piece.listed
+long_piece p = long_fenced p.piece p.fence
 
 one_piece : (p q : StagedPiece) → staged_bytes p ≡ staged_bytes q → p ≡ q
 one_piece p q e =
@@ -33,32 +29,9 @@ one_piece p q e =
     let pieces : p.piece ≡ q.piece = both.1 in
     λ i. record { fence = fences i; piece = pieces i }
 
-some_code : (op : Op) → (code_of op ≡ 0 → ⊥) × (code_of op < 256)
-some_code (Move src dst) = (λ e. absurd (omega arith), omega arith)
-some_code (Fill pattern dst) = (λ e. absurd (omega arith), omega arith)
-some_code (Compare src src2 expected) = (λ e. absurd (omega arith), omega arith)
-some_code (ComparePattern src pattern expected) = (λ e. absurd (omega arith), omega arith)
-some_code (ApplyDelta delta dst record_size) = (λ e. absurd (omega arith), omega arith)
-some_code (Dualcast src dst dst2) = (λ e. absurd (omega arith), omega arith)
-
-plain_code : (f : Fields) → IsListed f → get_or (spelling f) 7 0 ≡ 0 → ⊥
-unfolding spelling
-plain_code f listed e =
-    let code = some_code f.op in
-    let fits : f.flags < 2 ^ 24 = listed.flags_fit in
-    let is : code_of f.op ≡ 0 = omega (arith, code.1) in
-    code.0 is
-
-fenced_code : (fence : Bool) (d : Descriptor) → get_or (spelling (with_fence fence (fields d))) 7 0 ≡ 0 → ⊥
-fenced_code false d e = plain_code (fields d) d.listed (ap (λ (b : List ℕ). get_or b 7 0) (sym (unfenced_same (fields d))) ∙ e)
-fenced_code true d e =
-    plain_code (fields d) d.listed
-    (sym (get_or-set_other (spelling (fields d)) 4 7 (bit_or (get_or (spelling (fields d)) 4 0) 1) 0 (λ k. absurd (omega arith)))
-    ∙ ap (λ (b : List ℕ). get_or b 7 0) (fenced_spelling_set (fields d) d.listed) ∙ e)
-
 -- byte 7 of a piece is no zero
 pub piece_code : (p : StagedPiece) → get_or (staged_bytes p) 7 0 ≡ 0 → ⊥
-piece_code p e = fenced_code p.fence p.piece e
+piece_code p e = fenced_code p.piece p.fence e
 
 -- ---- where records begin
 
@@ -99,11 +72,11 @@ long_entries (e ∷ es) all = omega (arith, length-append (entry_bytes e) (flat_
 
 -- a piece is no other bytes
 piece_or_other : (p : StagedPiece) (bytes : List ℕ) (fault : FieldFault) → bytes ≡ staged_bytes p → IsNoPiece bytes fault → ⊥
-piece_or_other p bytes fault e none = fault_only (unfenced bytes) fault p.piece none.fault_is (told_piece bytes p.fence p.piece e).1
+piece_or_other p bytes fault e none = no_operation (unfenced bytes) fault p.piece none.fault_is (told_by Operation operation_kind are_operations bytes p.fence p.piece e).1
 
 pub same_other : (b c : List ℕ) (f g : FieldFault) → b ≡ c → IsNoPiece b f → IsNoPiece c g → Other b f ≡ Other c g
 same_other b c f g e p q =
-    let fault : f ≡ g = first_is_one Keeps (unfenced b) f g p.fault_is (subst (λ (x : List ℕ). IsFirstFault (unfenced x) g) (sym e) q.fault_is) in
+    let fault : f ≡ g = first_is_one OperationKeeps (unfenced b) f g p.fault_is (subst (λ (x : List ℕ). IsFirstOperationFault (unfenced x) g) (sym e) q.fault_is) in
     λ i. Other (e i) (fault i)
 
 one_entry : (e f : StagedEntry) → IsEntry e → IsEntry f → entry_bytes e ≡ entry_bytes f → e ≡ f

@@ -7,11 +7,11 @@ use Rattle.std.proofs.lemmas.List.{append-nil, append_cancel_left}
 use Rattle.std.proofs.lemmas.Option.{same_Some}
 use Rattle.std.proofs.lemmas.Slice.Eq.{bytes_eq-Decides}
 use Rattle.hex.specs.Hex.{encode_lower}
-use Rattle.dsa_descriptor.specs.declared.descriptor.Descriptor.{Descriptor}
 use Rattle.dsa_descriptor.specs.declared.fault.FieldFault.{FieldFault}
-use Rattle.dsa_descriptor.specs.Descriptors.{fields}
 use Rattle.dsa_descriptor.proofs.Bytes.{u32_at-lt}
-use Rattle.dsa_operations.specs.OperationFields.OperationFields.{OfDescriptor}
+use Rattle.dsa_operations.specs.declared.operation.Operation.{Operation}
+use Rattle.dsa_operations.specs.OperationFields.{operation_fields}
+use Rattle.dsa_operations.proofs.Same.{listed_of}
 use Rattle.dsa_lines.specs.Words.{Word, words_of}
 use Rattle.dsa_lines.specs.Numbers.{hex, number_of}
 use Rattle.dsa_lines.specs.Text.{tail_text, text_of, line_text}
@@ -26,30 +26,30 @@ use Rattle.dsa_lines.proofs.StagingLemmas.{same_other}
 
 -- ---- the line of an entry
 
-pub fenced_line : (fence : Bool) (d : Descriptor) → is_line (cond fence (codes "fence ") [] ++ line_text (OfDescriptor (fields d))) ≡ true
-fenced_line true d = line_append (codes "fence ") (line_text (OfDescriptor (fields d))) refl (canonical_is_line (OfDescriptor (fields d)) d.listed)
-fenced_line false d = canonical_is_line (OfDescriptor (fields d)) d.listed
+pub fenced_line : (fence : Bool) (d : Operation) → is_line (cond fence (codes "fence ") [] ++ line_text (operation_fields d)) ≡ true
+fenced_line true d = line_append (codes "fence ") (line_text (operation_fields d)) refl (canonical_is_line (operation_fields d) (listed_of d))
+fenced_line false d = canonical_is_line (operation_fields d) (listed_of d)
 
 entry_line : (e : StagedEntry) → IsEntry e → is_line (entry_text e) ≡ true
 entry_line (Piece p) h = fenced_line p.fence p.piece
 entry_line (Other bytes fault) h = other_line bytes fault h.shown.1.whole h.shown.1.are_bytes
 
 -- no line of an entry begins with `#`, and none of a piece with `u`
-fenced_begins : (fence : Bool) (d : Descriptor) → get_or (cond fence (codes "fence ") [] ++ line_text (OfDescriptor (fields d))) 0 35 ≡ 35 → ⊥
+fenced_begins : (fence : Bool) (d : Operation) → get_or (cond fence (codes "fence ") [] ++ line_text (operation_fields d)) 0 35 ≡ 35 → ⊥
 fenced_begins true d e = let no : ◌≡◌ {A = ℕ} 102 35 = e in absurd (omega arith)
-fenced_begins false d e = (line_begins (OfDescriptor (fields d))).1 e
+fenced_begins false d e = (line_begins (operation_fields d)).1 e
 
-fenced_known : (fence : Bool) (d : Descriptor) → get_or (cond fence (codes "fence ") [] ++ line_text (OfDescriptor (fields d))) 0 0 ≡ 117 → ⊥
+fenced_known : (fence : Bool) (d : Operation) → get_or (cond fence (codes "fence ") [] ++ line_text (operation_fields d)) 0 0 ≡ 117 → ⊥
 fenced_known true d e = let no : ◌≡◌ {A = ℕ} 102 117 = e in absurd (omega arith)
-fenced_known false d e = no_unknown (OfDescriptor (fields d)) e
+fenced_known false d e = no_unknown (operation_fields d) e
 
 piece_or_other_text : (p : StagedPiece) (bytes : List ℕ) (fault : FieldFault) → text_of (other_words bytes fault) ≡ piece_text p → ⊥
 piece_or_other_text p bytes fault e = fenced_known p.fence p.piece (ap (λ (t : List ℕ). get_or t 0 0) (sym e))
 
-same_fenced : (a b : Bool) (d e : Descriptor) → cond a (codes "fence ") [] ++ line_text (OfDescriptor (fields d)) ≡ cond b (codes "fence ") [] ++ line_text (OfDescriptor (fields e)) → (a ≡ b) × (d ≡ e)
+same_fenced : (a b : Bool) (d e : Operation) → cond a (codes "fence ") [] ++ line_text (operation_fields d) ≡ cond b (codes "fence ") [] ++ line_text (operation_fields e) → (a ≡ b) × (d ≡ e)
 same_fenced true true d e same = (refl, same_line d e (ap (drop 6) same))
-same_fenced true false d e same = absurd ((line_begins (OfDescriptor (fields e))).2 (ap (λ (t : List ℕ). get_or t 3 0) (sym same)))
-same_fenced false true d e same = absurd ((line_begins (OfDescriptor (fields d))).2 (ap (λ (t : List ℕ). get_or t 3 0) same))
+same_fenced true false d e same = absurd ((line_begins (operation_fields e)).2 (ap (λ (t : List ℕ). get_or t 3 0) (sym same)))
+same_fenced false true d e same = absurd ((line_begins (operation_fields d)).2 (ap (λ (t : List ℕ). get_or t 3 0) same))
 same_fenced false false d e same = (refl, same_line d e same)
 
 same_piece : (p q : StagedPiece) → piece_text p ≡ piece_text q → p ≡ q

@@ -2,18 +2,17 @@
 use Rattle.std.specs.Prelude.{◌≡◌, ◌≢◌, ⊤, ℕ, ◌%◌, ◌^◌, ◌<◌, true, false, List, [], ◌∷◌, ◌++◌, length, slice_index, codes, decimal}
 use Rattle.std.specs.List.{AllZip}
 use Rattle.hex.specs.Hex.{IsBytes, encode_lower}
-use Rattle.dsa_descriptor.specs.declared.descriptor.Descriptor.{Descriptor}
 use Rattle.dsa_descriptor.specs.declared.fault.FieldFault.{FieldFault}
-use Rattle.dsa_descriptor.specs.Descriptors.{fields}
 use Rattle.dsa_descriptor.specs.Causes.{field_name}
-use Rattle.dsa_descriptor.specs.Faults.{IsFirstFault}
 use Rattle.dsa_descriptor.specs.Lists.{entries}
 use Rattle.dsa_descriptor.specs.Places.{u32_at, u64_at}
-use Rattle.dsa_descriptor.specs.Spelling.{spelling}
 use Rattle.dsa_emission.specs.declared.emission_fault.EmissionFault.{EmissionFault}
 use Rattle.dsa_emission.specs.declared.emission_fault.EmissionFault.TheVariants.{PortalLength}
 use Rattle.dsa_emission.specs.EmissionFaults.{is_batch_entry}
-use Rattle.dsa_operations.specs.OperationFields.OperationFields.{OfDescriptor}
+use Rattle.dsa_operations.specs.declared.operation.Operation.{Operation}
+use Rattle.dsa_operations.specs.Faults.{IsFirstOperationFault}
+use Rattle.dsa_operations.specs.OperationFields.{operation_fields}
+use Rattle.dsa_operations.specs.Operations.{spelling_of}
 use Rattle.dsa_lines.specs.declared.fault.EmittedFault.{EmittedFault}
 use Rattle.dsa_lines.specs.declared.fault.EmittedFault.TheVariants.{Emission, Memory}
 use Rattle.dsa_lines.specs.Words.{Word}
@@ -22,11 +21,11 @@ use Rattle.dsa_lines.specs.Text.{text_of, line_text}
 
 -- ---- what entries submit
 
--- a batch of so many descriptors, with their address and that of its record; a lone descriptor; or other bytes, with the
--- first fault that makes them no descriptor
+-- a batch of so many operations, with their address and that of its record; a lone operation; or other bytes, with the
+-- first fault that makes them no operation
 pub data Submission : Type 0 where
   Batch : (count list_at record_at : ℕ) → Submission
-  Lone : (d : Descriptor) → Submission
+  Lone : (o : Operation) → Submission
   Other : (bytes : List ℕ) (fault : FieldFault) → Submission
 
 -- the entry is that of this batch, whatever its other bytes are (specification 341204, batch descriptor)
@@ -40,17 +39,17 @@ pub record IsBatchOf (count list_at record_at : ℕ) (bytes : List ℕ) : Type 0
   pub list_fits : list_at < 2 ^ 64
   pub record_fits : record_at < 2 ^ 64
 
--- these 64 bytes are no batch entry, and this fault makes them no descriptor
+-- these 64 bytes are no batch entry, and this fault makes them no operation
 pub record IsOther (bytes : List ℕ) (fault : FieldFault) : Type 0 where
   pub no_batch : is_batch_entry bytes ≡ false
-  pub fault_is : IsFirstFault bytes fault
+  pub fault_is : IsFirstOperationFault bytes fault
   pub whole : length bytes ≡ 64
   pub are_bytes : IsBytes bytes
 
--- the 64 bytes submit it: they are those of such a batch, or of the descriptor, or these others
+-- the 64 bytes submit it: they are those of such a batch, or of the operation, or these others
 abbrev pub Submits : List ℕ → Submission → Type 0
 Submits bytes (Batch count list_at record_at) = IsBatchOf count list_at record_at bytes
-Submits bytes (Lone d) = bytes ≡ spelling (fields d)
+Submits bytes (Lone o) = bytes ≡ spelling_of o
 Submits bytes (Other others fault) = (bytes ≡ others) × IsOther others fault
 
 -- the bytes are a portal that submits these, entry by entry
@@ -58,15 +57,15 @@ pub record IsPortal (bytes : List ℕ) (submissions : List Submission) : Type 0 
   pub whole : length bytes % 64 ≡ 0
   pub each : AllZip Submits (entries bytes) submissions
 
--- it is a batch or a descriptor
+-- it is a batch or an operation
 abbrev pub IsKnown : Submission → Type 0
 IsKnown (Batch count list_at record_at) = ⊤
-IsKnown (Lone d) = ⊤
+IsKnown (Lone o) = ⊤
 IsKnown (Other bytes fault) = ⊥
 
 -- ---- their text
 
--- the words of a batch: its size, and the addresses of its descriptors and of its record
+-- the words of a batch: its size, and the addresses of its operations and of its record
 abbrev pub batch_words : ℕ → ℕ → ℕ → List Word
 batch_words count list_at record_at =
     codes "batch" ∷ codes "of" ∷ decimal count ∷ codes "at" ∷ hex list_at ∷ codes "," ∷ codes "record" ∷ hex record_at ∷ []
@@ -75,7 +74,7 @@ batch_words count list_at record_at =
 abbrev pub why : FieldFault → List ℕ
 why fault = codes "(" ++ (field_name fault ++ codes ")")
 
--- other bytes: the operation code in byte 7, why they are no descriptor, and all of them
+-- other bytes: the operation code in byte 7, why they are no operation, and all of them
 abbrev pub other_words : List ℕ → FieldFault → List Word
 other_words bytes fault =
     codes "unknown" ∷ hex (slice_index bytes 7) ∷ why fault ∷ codes "," ∷ codes "64" ∷ codes "bytes" ∷ encode_lower bytes ∷ []
@@ -83,7 +82,7 @@ other_words bytes fault =
 -- a line, with no newline
 abbrev pub submission_text : Submission → List ℕ
 submission_text (Batch count list_at record_at) = text_of (batch_words count list_at record_at)
-submission_text (Lone d) = line_text (OfDescriptor (fields d))
+submission_text (Lone o) = line_text (operation_fields o)
 submission_text (Other bytes fault) = text_of (other_words bytes fault)
 
 -- a line for each entry

@@ -1,10 +1,8 @@
 -- What is written of a portal or a staging area is read again.
 use Rattle.std.specs.Prelude.{◌≡◌, ℕ, List, [], ◌∷◌, map, Some}
 use Rattle.std.specs.List.{AllByRecursion, flat_map}
-use Rattle.dsa_descriptor.specs.Descriptors.{fields}
-use Rattle.dsa_descriptor.specs.Spelling.{spelling}
-use Rattle.dsa_operations.specs.OperationFields.{OperationFields}
-use Rattle.dsa_operations.specs.OperationFields.OperationFields.{OfDescriptor}
+use Rattle.dsa_operations.specs.OperationFields.{OperationFields, operation_fields}
+use Rattle.dsa_operations.specs.Operations.{spelling_of}
 use Rattle.dsa_lines.specs.declared.recording.Recorded.{Recorded}
 use Rattle.dsa_lines.specs.declared.recording.Recorded.TheVariants.{Batch as BatchSaid, Entry as EntrySaid}
 use Rattle.dsa_lines.specs.Texts.{lines_of, TextSpells}
@@ -14,14 +12,14 @@ use Rattle.dsa_lines.specs.Portals.Submission.{Batch, Lone, Other}
 use Rattle.dsa_lines.specs.Stagings.{StagedPiece, IsPlausible, IsStaging, staged_bytes, staging_text}
 use Rattle.dsa_lines.specs.Stagings.StagedEntry.{Piece}
 
--- the fields of the descriptors that are submitted by themselves, in order
+-- the fields of the operations that are submitted by themselves, in order
 abbrev pub lone_fields : List Submission → List OperationFields
 lone_fields [] = []
 lone_fields (Batch count list_at record_at ∷ ss) = lone_fields ss
-lone_fields (Lone d ∷ ss) = OfDescriptor (fields d) ∷ lone_fields ss
+lone_fields (Lone o ∷ ss) = operation_fields o ∷ lone_fields ss
 lone_fields (Other bytes fault ∷ ss) = lone_fields ss
 
--- the text of a portal without other bytes spells its lone descriptors
+-- the text of a portal without other bytes spells its lone operations
 abbrev pub PortalTextIsRead : Type 0
 PortalTextIsRead =
     (bytes : List ℕ) (ss : List Submission) → IsPortal bytes ss → AllByRecursion IsKnown ss →
@@ -32,19 +30,19 @@ abbrev pub StagingTextIsRead : Type 0
 StagingTextIsRead =
     (at : ℕ) (bytes : List ℕ) (ps : List StagedPiece) (records : List (List ℕ)) →
     IsStaging bytes (map Piece ps) records → AllByRecursion IsPlausible records →
-    TextSpells (staging_text at (map Piece ps) records) (map (λ p. OfDescriptor (fields p.piece)) ps)
+    TextSpells (staging_text at (map Piece ps) records) (map (λ p. operation_fields p.piece) ps)
 
 -- ---- as a recording
 
--- what the entries of a portal say: each batch, and the bytes of each lone descriptor
+-- what the entries of a portal say: each batch, and the bytes of each lone operation
 abbrev pub said_by : List Submission → List Recorded
 said_by [] = []
 said_by (Batch count list_at record_at ∷ ss) =
     BatchSaid (record { count = count; list_at = list_at; record_at = record_at }) ∷ said_by ss
-said_by (Lone d ∷ ss) = EntrySaid (spelling (fields d)) ∷ said_by ss
+said_by (Lone o ∷ ss) = EntrySaid (spelling_of o) ∷ said_by ss
 said_by (Other bytes fault ∷ ss) = said_by ss
 
--- read as a recording, the text of a portal without other bytes says its batches and its lone descriptors
+-- read as a recording, the text of a portal without other bytes says its batches and its lone operations
 abbrev pub PortalTextIsRecorded : Type 0
 PortalTextIsRecorded =
     (bytes : List ℕ) (ss : List Submission) → IsPortal bytes ss → AllByRecursion IsKnown ss →

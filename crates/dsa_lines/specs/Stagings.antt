@@ -4,16 +4,16 @@ use Rattle.std.specs.List.{AllByRecursion, concat, flat_map}
 use Rattle.std.specs.Simd.{first_chunks}
 use Rattle.std.specs.Str.{bytes_eq}
 use Rattle.hex.specs.Hex.{IsBytes, encode_lower}
-use Rattle.dsa_descriptor.specs.declared.descriptor.Descriptor.{Descriptor}
 use Rattle.dsa_descriptor.specs.declared.fault.FieldFault.{FieldFault}
-use Rattle.dsa_descriptor.specs.Descriptors.{fields}
-use Rattle.dsa_descriptor.specs.Faults.{AreZero, IsFirstFault}
+use Rattle.dsa_descriptor.specs.Faults.{AreZero}
 use Rattle.dsa_descriptor.specs.Places.{u32_at}
 use Rattle.dsa_descriptor.specs.Records.{layout}
-use Rattle.dsa_descriptor.specs.Spelling.{spelling}
 use Rattle.dsa_emission.specs.declared.emission_fault.EmissionFault.TheVariants.{StagingLength}
-use Rattle.dsa_descriptor.specs.Fences.{unfenced, with_fence}
-use Rattle.dsa_operations.specs.OperationFields.OperationFields.{OfDescriptor}
+use Rattle.dsa_descriptor.specs.Fences.{fenced, unfenced}
+use Rattle.dsa_operations.specs.declared.operation.Operation.{Operation}
+use Rattle.dsa_operations.specs.Faults.{IsFirstOperationFault}
+use Rattle.dsa_operations.specs.OperationFields.{operation_fields}
+use Rattle.dsa_operations.specs.Operations.{spelling_of}
 use Rattle.dsa_lines.specs.declared.fault.EmittedFault.{EmittedFault}
 use Rattle.dsa_lines.specs.Words.{Word}
 use Rattle.dsa_lines.specs.Numbers.{hex}
@@ -22,14 +22,14 @@ use Rattle.dsa_lines.specs.Portals.{IsFirstLengthFault, other_words}
 
 -- ---- what is in a staging area: entries of 64 bytes, and after them records of 32
 
--- a piece of a batch: whether it is fenced, and its descriptor
+-- a piece of a batch: whether it is fenced, and its operation
 pub record StagedPiece : Type 0 where
   pub fence : Bool
-  pub piece : Descriptor
+  pub piece : Operation
 
 -- the bytes of a piece, with its fence
 abbrev pub staged_bytes : StagedPiece → List ℕ
-staged_bytes p = spelling (with_fence p.fence (fields p.piece))
+staged_bytes p = fenced p.fence (spelling_of p.piece)
 
 -- an entry: a piece; or other bytes, with the first fault that makes them no piece
 pub data StagedEntry : Type 0 where
@@ -41,9 +41,9 @@ abbrev pub entry_bytes : StagedEntry → List ℕ
 entry_bytes (Piece p) = staged_bytes p
 entry_bytes (Other bytes fault) = bytes
 
--- these 64 bytes are no piece: without their fence they are no descriptor, for this fault
+-- these 64 bytes are no piece: without their fence they are no operation, for this fault
 pub record IsNoPiece (bytes : List ℕ) (fault : FieldFault) : Type 0 where
-  pub fault_is : IsFirstFault (unfenced bytes) fault
+  pub fault_is : IsFirstOperationFault (unfenced bytes) fault
   pub whole : length bytes ≡ 64
   pub are_bytes : IsBytes bytes
 
@@ -83,7 +83,7 @@ pub record IsStaging (bytes : List ℕ) (entries : List StagedEntry) (records : 
 
 -- the line of a piece, after `fence` if it is fenced
 abbrev pub piece_text : StagedPiece → List ℕ
-piece_text p = (if p.fence then codes "fence " else []) ++ line_text (OfDescriptor (fields p.piece))
+piece_text p = (if p.fence then codes "fence " else []) ++ line_text (operation_fields p.piece)
 
 -- other bytes have the same line as in a portal
 abbrev pub entry_text : StagedEntry → List ℕ

@@ -10,7 +10,7 @@ ghost use Rattle.dsa_lines.specs.Text.{text_of};
 
 use crate::fault::EmittedFault;
 use crate::writing::{line_of, push_record};
-use dsa_descriptor::{Descriptor, FieldFault, u32_at, u64_at};
+use dsa_descriptor::{FieldFault, u32_at, u64_at};
 use dsa_emission::EmissionFault;
 use dsa_operations::Operation;
 use std::alloc::{AllocError, Global};
@@ -36,7 +36,7 @@ fn batch_text(alloc: Global, count: u32, list_at: u64, record_at: u64) -> Result
     Ok(line)
 }
 
-/// The operation code of other bytes, and why they are no descriptor.
+/// The operation code of other bytes, and why they are no operation.
 fn other_front(alloc: Global, code: u8, fault: FieldFault) -> Result<String, AllocError>
     ensures { IfOk result (λ line. string_bytes line ≡ codes "unknown " ++
         (hex code ++ (codes " " ++ why fault))) }
@@ -69,8 +69,8 @@ fn entry_text(alloc: Global, entry: &[u8; 64]) -> Result<String, AllocError>
         let (list_at, record_at) = (u64_at(entry, 16), u64_at(entry, 8));
         return batch_text(alloc, u32_at(entry, 32), list_at, record_at);
     }
-    match Descriptor::read(entry) {
-        Ok(d) => line_of(alloc, &Operation::Descriptor(d)),
+    match Operation::read(entry) {
+        Ok(operation) => line_of(alloc, &operation),
         Err(fault) => other_text(alloc, entry, fault),
     }
 }
@@ -110,8 +110,8 @@ fn text_of_portal(alloc: Global, bytes: &[u8]) -> Result<String, EmittedFault>
     Ok(text)
 }
 
-/// The text of a portal: a line for each entry, `batch of COUNT at ADDRESS, record ADDRESS`, the canonical line of a
-/// descriptor, or `unknown CODE (FAULT), 64 bytes DIGITS` of an entry that is neither.
+/// The text of a portal: a line for each entry, `batch of COUNT at ADDRESS, record ADDRESS`, the canonical line of an
+/// operation, or `unknown CODE (FAULT), 64 bytes DIGITS` of an entry that is neither.
 ///
 /// # Errors
 /// [`EmissionFault::PortalLength`] if the length is no multiple of 64; else [`EmittedFault::Memory`] at the first

@@ -9,20 +9,20 @@ pub fn one_portal_shown()
     ensures { OnePortalShown }
 {}
 
-/// Portals with the same text submit the same: batches of the same sizes and addresses, the same descriptors and other
+/// Portals with the same text submit the same: batches of the same sizes and addresses, the same operations and other
 /// bytes.
 #[tactic(auto, using(crate::proofs::PortalLemmas::one_text))]
 pub fn one_portal_text()
     ensures { OnePortalText }
 {}
 
-/// The text of a portal is read back as its lone descriptors, if each entry is a batch or a descriptor.
+/// The text of a portal is read back as its lone operations, if each entry is a batch or an operation.
 #[tactic(auto, using(crate::proofs::ReadAgain::portal_is_read))]
 pub fn portal_text_is_read()
     ensures { PortalTextIsRead }
 {}
 
-/// Read as a recording, the text of a portal says its batches and its lone descriptors, if each entry is one of these.
+/// Read as a recording, the text of a portal says its batches and its lone operations, if each entry is one of these.
 #[tactic(auto, using(crate::proofs::RecordedAgain::portal_is_recorded))]
 pub fn portal_text_is_recorded()
     ensures { PortalTextIsRecorded }

@@ -10,7 +10,7 @@ use crate::fault::EmittedFault;
 use crate::portal::{other_text, push_line};
 use crate::staged_record::push_records;
 use crate::writing::line_of;
-use dsa_descriptor::{Descriptor, is_fenced, unfenced};
+use dsa_descriptor::{is_fenced, unfenced};
 use dsa_emission::EmissionFault;
 use dsa_operations::Operation;
 use std::alloc::{AllocError, Global};
@@ -30,11 +30,11 @@ fn begins_record(entry: &[u8; 64]) -> bool
 }
 
 /// The line of a piece.
-fn piece_text(alloc: Global, piece: &Descriptor, fence: bool) -> Result<String, AllocError>
+fn piece_text(alloc: Global, piece: &Operation, fence: bool) -> Result<String, AllocError>
     ensures { IfOk result (λ line. string_bytes line ≡
         piece_text (record { fence = fence; piece = piece.now })) }
 {
-    let line = line_of(alloc, &Operation::Descriptor(*piece))?;
+    let line = line_of(alloc, piece)?;
     if fence {
         return format!(in alloc; "fence {line}");
     }
@@ -46,8 +46,8 @@ fn entry_text(alloc: Global, entry: &[u8; 64]) -> Result<String, AllocError>
     ensures { IfOk result (λ line. (e : StagedEntry) × Shows entry.now e ×
         (string_bytes line ≡ entry_text e)) }
 {
-    match Descriptor::read(&unfenced(entry)) {
-        Ok(d) => piece_text(alloc, &d, is_fenced(entry)),
+    match Operation::read(&unfenced(entry)) {
+        Ok(operation) => piece_text(alloc, &operation, is_fenced(entry)),
         Err(fault) => other_text(alloc, entry, fault),
     }
 }

@@ -23,7 +23,7 @@ returns-then-entry-eq-BATCH c =
     )) c.batch_text.ensures
 
 pub returns-in-Ok : goal.returns-in-Ok
-returns-in-Ok c = IfOk-weaker c.line_of.result _ _ (λ line is. (Lone c.in-Ok.d, c.in-Ok.ensures.found, is)) c.line_of.ensures
+returns-in-Ok c = IfOk-weaker c.line_of.result _ _ (λ line is. (Lone c.in-Ok.operation, c.in-Ok.ensures.found, is)) c.line_of.ensures
 
 pub returns-in-Err : goal.returns-in-Err
 returns-in-Err c =

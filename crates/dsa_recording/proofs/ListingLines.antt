@@ -3,7 +3,6 @@ use Rattle.std.proofs.Common.{◌≡◌, ℕ, zero, suc, Bool, true, false, ◌+
 use Rattle.std.proofs.lemmas.List.{append_assoc, append-nil, length-append}
 use Rattle.std.proofs.lemmas.List.Sums.{sum_by-cons}
 use Rattle.std.specs.List.{AllByRecursion, sum_by}
-use Rattle.dsa_descriptor.specs.Fields.{Fields}
 use Rattle.dsa_descriptor.specs.Lists.{entries}
 use Rattle.dsa_recording.specs.Pairs.{Terms}
 use Rattle.dsa_recording.specs.declared.stream.Submission.{Submission}
@@ -15,8 +14,10 @@ use Rattle.std.specs.Prelude.{codes, slice_index_or}
 use Rattle.dsa_descriptor.specs.declared.op.Op.{Op}
 use Rattle.dsa_descriptor.specs.Profile.{required_flags}
 use Rattle.dsa_lines.specs.Options.{flags_with}
-use Rattle.dsa_lines.specs.Text.{line_text}
-use Rattle.dsa_lines.proofs.RoundTrip.{line_is}
+use Rattle.dsa_operations.specs.OperationFields.{OperationFields}
+use Rattle.dsa_operations.specs.OperationFields.OperationFields.{OfDescriptor}
+use Rattle.dsa_lines.specs.Text.{line_text, op_words, text_of}
+use Rattle.dsa_lines.proofs.RoundTrip.{later_is, line_is}
 use Rattle.dsa_audit.specs.declared.member.Member.{Member}
 use Rattle.dsa_audit.specs.declared.needless.FenceUse.{FenceUse}
 use Rattle.dsa_audit.specs.declared.needless.FenceUse.TheVariants.{NoFence}
@@ -34,12 +35,14 @@ checked_tail t =
 
 -- the line of an operation without flags of its own, with what is said of its check after it, is that with the flag
 pub checked_line : (checked : Bool) (pasid : ℕ) (privileged : Bool) (record_at size : ℕ) (op : Op)
-    → line_text (record { pasid = pasid; privileged = privileged; flags = required_flags; record_at = record_at; size = size; int_handle = 0; op = op }) ++ check_words checked
-    ≡ line_text (record { pasid = pasid; privileged = privileged; flags = flags_with 0 checked; record_at = record_at; size = size; int_handle = 0; op = op })
+    → line_text (OfDescriptor (record { pasid = pasid; privileged = privileged; flags = required_flags; record_at = record_at; size = size; int_handle = 0; op = op })) ++ check_words checked
+    ≡ line_text (OfDescriptor (record { pasid = pasid; privileged = privileged; flags = flags_with 0 checked; record_at = record_at; size = size; int_handle = 0; op = op }))
 checked_line true pasid privileged record_at size op =
-    let plain : Fields = record { pasid = pasid; privileged = privileged; flags = required_flags; record_at = record_at; size = size; int_handle = 0; op = op } in
-    let checked : Fields = record { pasid = pasid; privileged = privileged; flags = flags_with 0 true; record_at = record_at; size = size; int_handle = 0; op = op } in
-    ap (λ (s : List ℕ). s ++ codes ", check") (line_is plain) ∙ checked_tail _ ∙ sym (line_is checked)
+    let front : List ℕ = text_of (op_words op size) in
+    let plain : OperationFields = OfDescriptor (record { pasid = pasid; privileged = privileged; flags = required_flags; record_at = record_at; size = size; int_handle = 0; op = op }) in
+    let checked : OperationFields = OfDescriptor (record { pasid = pasid; privileged = privileged; flags = flags_with 0 true; record_at = record_at; size = size; int_handle = 0; op = op }) in
+    ap (λ (s : List ℕ). s ++ codes ", check") (line_is plain ∙ later_is front record_at pasid privileged required_flags 0) ∙ checked_tail _
+    ∙ sym (line_is checked ∙ later_is front record_at pasid privileged (flags_with 0 true) 0)
 checked_line false pasid privileged record_at size op = append-nil _
 
 dropped : (uses : List FenceUse) (k : ℕ) → get_or (drop 1 uses) k NoFence ≡ get_or uses (suc k) NoFence
@@ -120,15 +123,15 @@ unfolding member_operations
 operations_more es first [] k m lt = absurd (omega (arith, lt))
 operations_more es first (x ∷ ms) zero m lt =
     let at : first + 0 ≡ first = omega arith in
-    let here : List Fields = member_operation (length es) first (slice_index_or es first []) x in
+    let here : List OperationFields = member_operation (length es) first (slice_index_or es first []) x in
     let one : length (here ++ []) ≡ length here = ap length (append-nil here) in
     let same : length here ≡ length (member_operation (length es) (first + 0) (slice_index_or es (first + 0) []) x) =
     ap (λ (n : ℕ). length (member_operation (length es) n (slice_index_or es n []) x)) (sym at) in
     omega (arith, one, same)
 operations_more es first (x ∷ ms) (suc k) m lt =
-    let here : List Fields = member_operation (length es) first (slice_index_or es first []) x in
-    let less : List Fields = member_operations es (suc first) (take k ms) in
-    let more : List Fields = member_operations es (suc first) (take (suc k) ms) in
+    let here : List OperationFields = member_operation (length es) first (slice_index_or es first []) x in
+    let less : List OperationFields = member_operations es (suc first) (take k ms) in
+    let more : List OperationFields = member_operations es (suc first) (take (suc k) ms) in
     let at : suc first + k ≡ first + suc k = omega arith in
     let next : ℕ → ℕ = λ n. length (member_operation (length es) n (slice_index_or es n []) (get_or ms k m)) in
     let rest : length more ≡ length less + next (suc first + k) = operations_more es (suc first) ms k m (omega (arith, lt)) in
@@ -148,9 +151,9 @@ listed_more es (t ∷ ss) (b ∷ audits) zero s a all lt =
     let one = ap length (append-nil (member_operations es t.first b.members.items)) in
     omega (arith, one)
 listed_more es (t ∷ ss) (b ∷ audits) (suc k) s a all lt =
-    let here : List Fields = member_operations es t.first b.members.items in
-    let less : List Fields = listed_operations es (take k ss) (take k audits) in
-    let more : List Fields = listed_operations es (take (suc k) ss) (take (suc k) audits) in
+    let here : List OperationFields = member_operations es t.first b.members.items in
+    let less : List OperationFields = listed_operations es (take k ss) (take k audits) in
+    let more : List OperationFields = listed_operations es (take (suc k) ss) (take (suc k) audits) in
     let next : ℕ = length (member_operations es (get_or ss k s).first (get_or audits k a).members.items) in
     let rest : length more ≡ length less + next = listed_more es ss audits k s a all.1 (omega (arith, lt)) in
     let whole : length (here ++ more) ≡ length here + length more = length-append here more in

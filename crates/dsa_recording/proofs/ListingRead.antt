@@ -9,12 +9,11 @@ use Rattle.dsa_audit.specs.declared.needless.FenceUse.{FenceUse}
 use Rattle.dsa_audit.specs.declared.needless.FenceUse.TheVariants.{NoFence, Needed, Held, Guarding, Signalling, GuardingAndSignalling, Needless}
 use Rattle.dsa_audit.specs.declared.member.Unseen.{Unseen}
 use Rattle.dsa_audit.specs.declared.member.Unseen.TheVariants.{Blank, Operation, Nested, Owner, Empty, Wrap}
-use Rattle.dsa_descriptor.specs.declared.descriptor.Descriptor.{Descriptor}
 use Rattle.dsa_descriptor.specs.declared.op.Op.{Op}
-use Rattle.dsa_descriptor.specs.Descriptors.{fields}
-use Rattle.dsa_descriptor.specs.Fields.{Fields}
 use Rattle.dsa_descriptor.specs.Places.{code_at, flags_at, op_at}
-use Rattle.dsa_descriptor.specs.Profile.{IsListed}
+use Rattle.dsa_operations.specs.declared.operation.Operation.{Operation as AnyOperation}
+use Rattle.dsa_operations.specs.OperationFields.{OperationFields, AreListedFields, operation_fields}
+use Rattle.dsa_operations.specs.OperationFields.OperationFields.{OfDescriptor}
 use Rattle.dsa_lines.specs.Text.{line_text}
 use Rattle.dsa_lines.specs.Texts.{lines_of, line_fields, all_fields, TextSpells}
 use Rattle.dsa_lines.specs.Words.{words_of}
@@ -34,7 +33,7 @@ use Rattle.dsa_recording.specs.Words.{unseen_words}
 -- ---- a line
 
 -- the line is one, and spells these operations
-record Reads (line : List ℕ) (here : List Fields) : Type 0 where
+record Reads (line : List ℕ) (here : List OperationFields) : Type 0 where
   is : is_line line ≡ true
   spells : line_fields (words_of line) ≡ Some here
 
@@ -90,9 +89,9 @@ left_out_reads number why e =
     let comment : is_line (codes " entry " ++ (decimal number ++ (codes ", " ++ why))) ≡ true = line_append (codes " entry ") (decimal number ++ (codes ", " ++ why)) refl place in
     record { is = comment; spells = comment_read (codes " entry " ++ (decimal number ++ (codes ", " ++ why))) comment }
 
-operation_reads : (number : ℕ) (e : List ℕ) (op : Op) → IsListed (stand_in number e op) → Reads (operation_line number e op) (stand_in number e op ∷ [])
+operation_reads : (number : ℕ) (e : List ℕ) (op : Op) → AreListedFields (OfDescriptor (stand_in number e op)) → Reads (operation_line number e op) (OfDescriptor (stand_in number e op) ∷ [])
 operation_reads number e op listed =
-    let f : Fields = stand_in number e op in
+    let f : OperationFields = OfDescriptor (stand_in number e op) in
     let comment : is_line (codes " entry " ++ decimal number) ≡ true = line_append (codes " entry ") (decimal number) refl (decimal_line number) in
     record {
       is = line_append (line_text f) (codes " # entry " ++ decimal number) (canonical_is_line f listed) comment;
@@ -100,28 +99,28 @@ operation_reads number e op listed =
     }
 
 -- whether it is apart from added records, and whether a list has what it expects
-apart_reads : (apart fits : Bool) (number : ℕ) (e : List ℕ) (op : Op) → AllByRecursion IsListed (cond apart (cond fits (stand_in number e op ∷ []) []) [])
+apart_reads : (apart fits : Bool) (number : ℕ) (e : List ℕ) (op : Op) → AllByRecursion AreListedFields (cond apart (cond fits (OfDescriptor (stand_in number e op) ∷ []) []) [])
     → Reads
     (cond apart (cond fits (operation_line number e op) (left_out number (codes "left out: its check expects another result than 0 or 1")))
     (left_out number (codes "left out: it touches addresses that this list keeps for records")))
-    (cond apart (cond fits (stand_in number e op ∷ []) []) [])
+    (cond apart (cond fits (OfDescriptor (stand_in number e op) ∷ []) []) [])
 apart_reads true true number e op all = operation_reads number e op all.0
 apart_reads true false number e op all = left_out_reads number (codes "left out: its check expects another result than 0 or 1") refl
 apart_reads false fits number e op all = left_out_reads number (codes "left out: it touches addresses that this list keeps for records") refl
 
-known_reads : (count number : ℕ) (e : List ℕ) (t : Touched) (op : Option Op) → AllByRecursion IsListed (known_operation count number e t op)
+known_reads : (count number : ℕ) (e : List ℕ) (t : Touched) (op : Option Op) → AllByRecursion AreListedFields (known_operation count number e t op)
     → Reads (known_line count number e t op) (known_operation count number e t op)
 known_reads count number e t None all = left_out_reads number (plain_words (code_at e)) (plain_is_line (code_at e))
 known_reads count number e t (Some op) all = apart_reads (is_apart_from_added count t) (expects_bit (op_in_list op (flags_at e))) number e op all
 
-member_reads : (count number : ℕ) (e : List ℕ) (m : Member) → AllByRecursion IsListed (member_operation count number e m)
+member_reads : (count number : ℕ) (e : List ℕ) (m : Member) → AllByRecursion AreListedFields (member_operation count number e m)
     → Reads (member_line count number e m) (member_operation count number e m)
 member_reads count number e (Known t) all = known_reads count number e t (op_at e) all
 member_reads count number e (Unknown why) all = left_out_reads number (unseen_words why (code_at e)) (unseen_line why (code_at e))
 
 -- ---- lines
 
-listed_parts : (fs gs : List Fields) → AllByRecursion IsListed (fs ++ gs) → AllByRecursion IsListed fs × AllByRecursion IsListed gs
+listed_parts : (fs gs : List OperationFields) → AllByRecursion AreListedFields (fs ++ gs) → AllByRecursion AreListedFields fs × AllByRecursion AreListedFields gs
 listed_parts [] gs all = (tt, all)
 listed_parts (f ∷ fs) gs all = let rest = listed_parts fs gs all.1 in ((all.0, rest.0), rest.1)
 
@@ -135,12 +134,12 @@ barrier_reads kind number e =
       spells = ap line_fields (comment_after (codes "barrier") (32 ∷ (kind ++ (codes " fence of entry " ++ decimal number))) comment) ∙ barrier_spells;
     }
 
-kind_read : (kind : List ℕ) (number : ℕ) (rest : List ℕ) (more : List Fields) → is_line kind ≡ true → TextSpells rest more → TextSpells ((barrier_for kind number ++ 10 ∷ []) ++ rest) more
+kind_read : (kind : List ℕ) (number : ℕ) (rest : List ℕ) (more : List OperationFields) → is_line kind ≡ true → TextSpells rest more → TextSpells ((barrier_for kind number ++ 10 ∷ []) ++ rest) more
 kind_read kind number rest more e spells =
     let reads : Reads (barrier_for kind number) [] = barrier_reads kind number e in
     line_before (barrier_for kind number) rest [] more reads.is reads.spells spells
 
-fence_reads : (number : ℕ) (used : FenceUse) (rest : List ℕ) (more : List Fields) → TextSpells rest more → TextSpells (fence_line number used ++ rest) more
+fence_reads : (number : ℕ) (used : FenceUse) (rest : List ℕ) (more : List OperationFields) → TextSpells rest more → TextSpells (fence_line number used ++ rest) more
 fence_reads number NoFence rest more e = e
 fence_reads number (Needed earlier later) rest more e = e
 fence_reads number Held rest more e = kind_read (codes "held") number rest more refl e
@@ -150,14 +149,14 @@ fence_reads number (GuardingAndSignalling earlier awaited) rest more e = kind_re
 fence_reads number Needless rest more e = e
 
 -- the lines of members are before others
-members_read : (es : List (List ℕ)) (at : ℕ) (ms : List Member) (uses : List FenceUse) (rest : List ℕ) (more : List Fields) → AllByRecursion IsListed (member_operations es at ms)
+members_read : (es : List (List ℕ)) (at : ℕ) (ms : List Member) (uses : List FenceUse) (rest : List ℕ) (more : List OperationFields) → AllByRecursion AreListedFields (member_operations es at ms)
     → TextSpells rest more → TextSpells (member_lines es at ms uses ++ rest) (member_operations es at ms ++ more)
 unfolding member_lines member_operations
 members_read es at [] uses rest more all e = e
 members_read es at (m ∷ ms) uses rest more all e =
     let entry : List ℕ = slice_index_or es at [] in
     let line : List ℕ = member_line (length es) at entry m in
-    let here : List Fields = member_operation (length es) at entry m in
+    let here : List OperationFields = member_operation (length es) at entry m in
     let parts = listed_parts here (member_operations es (suc at) ms) all in
     let reads : Reads line here = member_reads (length es) at entry m parts.0 in
     let fence : List ℕ = fence_line at (slice_index_or uses 0 NoFence) in
@@ -168,7 +167,7 @@ members_read es at (m ∷ ms) uses rest more all e =
     (members_read es (suc at) ms (drop 1 uses) rest more parts.1 e))
     ∙ ap Some (sym (append_assoc here (member_operations es (suc at) ms) more))
 
-listed_reads : (es : List (List ℕ)) (ss : List Submission) (audits : List Audited) → AllByRecursion IsListed (listed_operations es ss audits)
+listed_reads : (es : List (List ℕ)) (ss : List Submission) (audits : List Audited) → AllByRecursion AreListedFields (listed_operations es ss audits)
     → TextSpells (submission_lines es ss audits) (listed_operations es ss audits)
 unfolding submission_lines listed_operations
 listed_reads es [] audits all = nothing
@@ -187,7 +186,7 @@ left_comment left total =
     line_append (codes " left out: ") (decimal left ++ (codes " of " ++ (decimal total ++ last))) refl (line_append (decimal left) (codes " of " ++ (decimal total ++ last)) (decimal_line left) of_all) in
     record { is = comment; spells = comment_read (codes " left out: " ++ (decimal left ++ (codes " of " ++ (decimal total ++ last)))) comment }
 
-left_read : (empty none : Bool) (left total : ℕ) (rest : List ℕ) (more : List Fields) → TextSpells rest more
+left_read : (empty none : Bool) (left total : ℕ) (rest : List ℕ) (more : List OperationFields) → TextSpells rest more
     → TextSpells (cond empty (codes "# this list is empty: the recording has no operations" ++ 10 ∷ []) (cond none [] (left_words left total ++ 10 ∷ [])) ++ rest) more
 left_read true none left total rest more e =
     let comment : List ℕ = codes " this list is empty: the recording has no operations" in
@@ -197,9 +196,9 @@ left_read false false left total rest more e =
     let reads : Reads (left_words left total) [] = left_comment left total in
     line_before (left_words left total) rest [] more reads.is reads.spells e
 
-pub listing_is_read : (es : List (List ℕ)) (ss : List Submission) (audits : List Audited) (ds : List Descriptor) → listed_operations es ss audits ≡ map fields ds
+pub listing_is_read : (es : List (List ℕ)) (ss : List Submission) (audits : List Audited) (os : List AnyOperation) → listed_operations es ss audits ≡ map operation_fields os
     → TextSpells (listing_text es ss audits) (listed_operations es ss audits)
-listing_is_read es ss audits ds e =
+listing_is_read es ss audits os e =
     let left : ℕ = left_count es ss audits in
     left_read (sum_by member_count audits == 0) (left == 0) left (sum_by member_count audits) (submission_lines es ss audits) (listed_operations es ss audits)
-    (listed_reads es ss audits (subst (AllByRecursion IsListed) (sym e) (all_listed ds)))
+    (listed_reads es ss audits (subst (AllByRecursion AreListedFields) (sym e) (all_listed os)))

@@ -4,8 +4,6 @@ use Rattle.std.specs.List.{list_all, sum_by}
 use Rattle.dsa_descriptor.specs.declared.op.Op.{Op}
 use Rattle.dsa_descriptor.specs.declared.op.Op.TheVariants.{Move, Fill, Compare, ComparePattern, ApplyDelta, Dualcast}
 use Rattle.dsa_descriptor.specs.declared.span.Span.{Span}
-use Rattle.dsa_descriptor.specs.declared.descriptor.Descriptor.{Descriptor}
-use Rattle.dsa_descriptor.specs.Descriptors.{fields}
 use Rattle.dsa_descriptor.specs.Fields.{Fields}
 use Rattle.dsa_descriptor.specs.Places.{u32_at, u64_at, flags_at, code_at, op_at, pasid_at, privileged_at}
 use Rattle.dsa_descriptor.specs.Data.{record_span}
@@ -17,6 +15,9 @@ use Rattle.dsa_audit.specs.declared.member.Member.TheVariants.{Known, Unknown}
 use Rattle.dsa_audit.specs.declared.needless.FenceUse.{FenceUse}
 use Rattle.dsa_audit.specs.declared.needless.FenceUse.TheVariants as fence_use
 use Rattle.dsa_audit.specs.Members.{TouchedConflict}
+use Rattle.dsa_operations.specs.declared.operation.Operation.{Operation}
+use Rattle.dsa_operations.specs.OperationFields.{OperationFields, operation_fields}
+use Rattle.dsa_operations.specs.OperationFields.OperationFields.{OfDescriptor}
 use Rattle.dsa_lines.specs.Options.{flags_with}
 use Rattle.dsa_lines.specs.Text.{line_text}
 use Rattle.dsa_lines.specs.Texts.{TextSpells}
@@ -102,7 +103,7 @@ left_out number why = codes "# entry " ++ (decimal number ++ (codes ", " ++ why)
 
 -- an operation, and after it the number of its entry
 abbrev pub operation_line : ℕ → List ℕ → Op → List ℕ
-operation_line number e op = line_text (stand_in number e op) ++ (codes " # entry " ++ decimal number)
+operation_line number e op = line_text (OfDescriptor (stand_in number e op)) ++ (codes " # entry " ++ decimal number)
 
 -- a no-op has no line, and no list has an operation that no plan has
 abbrev pub plain_words : ℕ → List ℕ
@@ -155,25 +156,25 @@ submission_lines es (s ∷ ss) (a ∷ audits) = member_lines es s.first a.member
 -- ---- its operations
 
 -- that of an entry that is looked at is in the list if it has one that a list has and is apart from added records
-abbrev pub known_operation : ℕ → ℕ → List ℕ → Touched → Option Op → List Fields
+abbrev pub known_operation : ℕ → ℕ → List ℕ → Touched → Option Op → List OperationFields
 known_operation count number e t None = []
 known_operation count number e t (Some op) =
     if is_apart_from_added count t
-    then (if expects_bit (op_in_list op (flags_at e)) then stand_in number e op ∷ [] else [])
+    then (if expects_bit (op_in_list op (flags_at e)) then OfDescriptor (stand_in number e op) ∷ [] else [])
     else []
 
 -- the operation of a member, if the list has it
-abbrev pub member_operation : ℕ → ℕ → List ℕ → Member → List Fields
+abbrev pub member_operation : ℕ → ℕ → List ℕ → Member → List OperationFields
 member_operation count number e (Known t) = known_operation count number e t (op_at e)
 member_operation count number e (Unknown why) = []
 
 -- those of members, of which the first is entry `at`
-unfoldable pub member_operations : List (List ℕ) → ℕ → List Member → List Fields
+unfoldable pub member_operations : List (List ℕ) → ℕ → List Member → List OperationFields
 member_operations es at [] = []
 member_operations es at (m ∷ ms) = member_operation (length es) at (slice_index_or es at []) m ++ member_operations es (suc at) ms
 
 -- those of all submissions
-unfoldable pub listed_operations : List (List ℕ) → List Submission → List Audited → List Fields
+unfoldable pub listed_operations : List (List ℕ) → List Submission → List Audited → List OperationFields
 listed_operations es [] audits = []
 listed_operations es (s ∷ ss) [] = []
 listed_operations es (s ∷ ss) (a ∷ audits) = member_operations es s.first a.members.items ++ listed_operations es ss audits
@@ -219,12 +220,12 @@ StandInsConflict =
     Does d t → Does e u → op_at d ≡ Some o → op_at e ≡ Some p → is_apart_from_added count t ≡ true → is_apart_from_added count u ≡ true →
     Conflicts (stand_in m d o) (stand_in n e p) ↔ TouchedConflict t u
 
--- the list spells its operations, if each is that of a descriptor: an entry may have one that no list has, with a record at
+-- the list spells its operations, if each is one that a list may have: an entry may have another, with a record at
 -- no multiple of 32, say
 abbrev pub ListingIsRead : Type 0
 ListingIsRead =
-    (es : List (List ℕ)) (ss : List Submission) (audits : List Audited) (ds : List Descriptor) →
-    listed_operations es ss audits ≡ map fields ds → TextSpells (listing_text es ss audits) (listed_operations es ss audits)
+    (es : List (List ℕ)) (ss : List Submission) (audits : List Audited) (os : List Operation) →
+    listed_operations es ss audits ≡ map operation_fields os → TextSpells (listing_text es ss audits) (listed_operations es ss audits)
 
 -- ---- for private clauses
 

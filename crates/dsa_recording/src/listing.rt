@@ -4,6 +4,7 @@ ghost use Rattle.std.specs.Prelude.{ℕ, ◌≡◌, ◌≤◌, ◌<◌, ◌^◌,
 ghost use Rattle.dsa_audit.specs.declared.needless.FenceUse.TheVariants.{NoFence};
 ghost use Rattle.std.specs.List.{list_all, sum_by};
 ghost use Rattle.dsa_descriptor.specs.Places.{code_at, op_at, pasid_at, privileged_at};
+ghost use Rattle.dsa_operations.specs.OperationFields.OperationFields.{OfDescriptor};
 ghost use Rattle.dsa_lines.specs.Text.{line_text};
 ghost use Rattle.dsa_recording.specs.Listings.{record_in_list, is_checked, check_words, stand_in, is_clear, expecting_zero, op_in_list, expects_bit, is_apart_from_added, left_out, operation_line, plain_words, barrier_for, fence_line, known_line, known_operation, member_line, member_lines, submission_lines, member_operation, member_operations, listed_operations, left_line, listing_text, AreEntries, StandInsConflict, ListingIsRead};
 ghost use Rattle.dsa_recording.specs.Totals.{HasSums, member_count};
@@ -141,7 +142,7 @@ fn stand_in_text(
 ) -> Result<String, AllocError>
     requires { number < 2 ^ 58 }
     ensures { IfOk result (λ line. string_bytes line ≡
-        line_text (stand_in number entry.now op.now)) }
+        line_text (OfDescriptor (stand_in number entry.now op.now))) }
 {
     let Header {
         owner,

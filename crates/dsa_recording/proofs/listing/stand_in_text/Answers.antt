@@ -1,5 +1,6 @@
 use Rattle.std.proofs.Common.{◌/◌, ◌%◌, ◌^◌, ◌++◌, List, ℕ, ap, ◌∙◌}
 use Rattle.std.specs.Prelude.{◌==◌}
+use Rattle.dsa_operations.specs.OperationFields.OperationFields.{OfDescriptor}
 use Rattle.dsa_lines.specs.Options.{flags_with}
 use Rattle.dsa_lines.specs.Text.{line_text}
 use Rattle.dsa_recording.specs.Listings.{check_words, is_checked, op_in_list}
@@ -14,7 +15,7 @@ returns c =
     c.in_ok-push_check.ensures
     ∙ ap (λ (t : List ℕ). t ++ check_words c.is_checked-is_checked.result) c.in_ok-line.ensures
     ∙ checked_line c.is_checked-is_checked.result _ _ _ _ _
-    ∙ (λ i. line_text (record {
+    ∙ (λ i. line_text (OfDescriptor (record {
       pasid = header.owner i % 2 ^ 20;
       privileged = header.owner i / 2 ^ 31 == 1;
       flags = flags_with 0 (checked i);
@@ -22,4 +23,4 @@ returns c =
       size = header.size i;
       int_handle = 0;
       op = op i;
-    }))
+    })))

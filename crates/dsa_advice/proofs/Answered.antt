@@ -4,7 +4,6 @@ use Rattle.std.proofs.lemmas.List.{length-map}
 use Rattle.std.proofs.lemmas.Result.{IfOk-weaker}
 use Rattle.dsa_descriptor.specs.declared.descriptor.Descriptor.{Descriptor}
 use Rattle.dsa_descriptor.specs.Descriptors.{fields}
-use Rattle.dsa_descriptor.specs.Fields.{Fields}
 use Rattle.dsa_descriptor.specs.Pieces.{most_pieces}
 use Rattle.dsa_explain.specs.Runs.{Labelling, labelling}
 use Rattle.dsa_plan.specs.Plan.{Plan}
@@ -18,19 +17,18 @@ use Rattle.dsa_lines.specs.declared.fault.TextFault.TheVariants.{Grammar, List a
 use Rattle.dsa_lines.specs.Assembled.{Assembles}
 use Rattle.dsa_calls.specs.declared.fault.PlanFault.{PlanFault}
 use Rattle.dsa_calls.specs.declared.fault.PlanFault.TheVariants.{Memory}
-use Rattle.dsa_calls.specs.Lists.{IsListOf, IsOrMemory, OrMemory}
-use Rattle.dsa_splitter.specs.Pieces.{piece_barriers}
-use Rattle.dsa_splitter.proofs.Walks.{length_all}
-use Rattle.dsa_calls.specs.Fenced.{PiecesConflict, PlansWith}
+use Rattle.dsa_calls.specs.Lists.{IsOrMemory, OrMemory}
+use Rattle.dsa_lists.specs.ReadLists.{PlansRead, planned_pieces_of}
+use Rattle.dsa_lists.proofs.ReadLists.{legal_as_operations}
+use Rattle.dsa_operations.specs.declared.operation.Operation.{Operation}
+use Rattle.dsa_operations.specs.declared.operation.Operation.TheVariants as operation
 use Rattle.dsa_calls.specs.Checked.{ChecksPlanBy}
 use Rattle.dsa_calls.specs.Judge.{JudgesPiecesBy}
-use Rattle.dsa_calls.specs.Planned.{Submission}
-use Rattle.dsa_calls.proofs.PiecesChecked.{shown_by}
 use Rattle.dsa_reasons.specs.declared.fences.Detail.{Detail}
 use Rattle.dsa_explain.specs.Explained.{CanBeExplained}
 use Rattle.dsa_advice.specs.declared.answer.Answer.{Answer}
 use Rattle.dsa_advice.specs.Refusals.{IsRefusal}
-use Rattle.dsa_advice.specs.Explained.{AnswersJudged, ExplainsList, TellsJudged, labels_of, is_compared, is_planned, is_refused_list, is_told, is_waiting}
+use Rattle.dsa_advice.specs.Explained.{AnswersJudged, ExplainsOperations, TellsJudged, is_compared, is_refused, is_told, is_waiting}
 use Rattle.dsa_advice.specs.declared.form.Form.{Form}
 use Rattle.dsa_advice.specs.declared.shown.Subject.{Subject}
 use Rattle.dsa_advice.specs.Shown.{AnswersPlan, AnswersSubject, CanBeShown, ShowsPlan, TellsPlan, is_shown, is_too_large, is_untracked, unlabelled}
@@ -60,67 +58,59 @@ same_fault shown lines TextMemory e = e
 -- ---- a plan
 
 -- the plan that is shown, seen by what its parts are equal to
-pub subject_answered : {E : Type 0} (r : Result Answer E) (s : Limits) (x : Subject) (plan : Plan) (ds : List Descriptor) (bs : List Bool) (os : Labelling) (least : Option ℕ) (form : Form)
+pub subject_answered : {E : Type 0} (r : Result Answer E) (s : Limits) (x : Subject) (plan : Plan) (ds : List Operation) (bs : List Bool) (os : Labelling) (least : Option ℕ) (form : Form)
     → x.plan.now ≡ plan → x.pieces.now ≡ ds → x.barriers.now ≡ bs → labelling x.labels ≡ os → x.least ≡ least
     → IfOk r (AnswersSubject s x form) → IfOk r (AnswersPlan s plan ds bs os least form)
 subject_answered r s x plan ds bs os least form e f g h k answers =
     let first = subst (λ (p : Plan). IfOk r (AnswersPlan s p x.pieces.now x.barriers.now (labelling x.labels) x.least form)) e answers in
-    let second = subst (λ (p : List Descriptor). IfOk r (AnswersPlan s plan p x.barriers.now (labelling x.labels) x.least form)) f first in
+    let second = subst (λ (p : List Operation). IfOk r (AnswersPlan s plan p x.barriers.now (labelling x.labels) x.least form)) f first in
     let third = subst (λ (p : List Bool). IfOk r (AnswersPlan s plan ds p (labelling x.labels) x.least form)) g second in
     let fourth = subst (λ (p : Labelling). IfOk r (AnswersPlan s plan ds bs p x.least form)) h third in
     subst (λ (n : Option ℕ). IfOk r (AnswersPlan s plan ds bs os n form)) k fourth
 
 -- the same of words
-pub subject_told : (s : Limits) (detail : Detail) (x : Subject) (plan : Plan) (ds : List Descriptor) (bs : List Bool) (os : Labelling) (text : List ℕ)
+pub subject_told : (s : Limits) (detail : Detail) (x : Subject) (plan : Plan) (ds : List Operation) (bs : List Bool) (os : Labelling) (text : List ℕ)
     → x.plan.now ≡ plan → x.pieces.now ≡ ds → x.barriers.now ≡ bs → labelling x.labels ≡ os
     → TellsPlan s detail x.plan.now x.pieces.now x.barriers.now (labelling x.labels) text → TellsPlan s detail plan ds bs os text
 subject_told s detail x plan ds bs os text e f g h tells =
     let first = subst (λ (p : Plan). TellsPlan s detail p x.pieces.now x.barriers.now (labelling x.labels) text) e tells in
-    let second = subst (λ (p : List Descriptor). TellsPlan s detail plan p x.barriers.now (labelling x.labels) text) f first in
+    let second = subst (λ (p : List Operation). TellsPlan s detail plan p x.barriers.now (labelling x.labels) text) f first in
     let third = subst (λ (p : List Bool). TellsPlan s detail plan ds p (labelling x.labels) text) g second in
     subst (λ (p : Labelling). TellsPlan s detail plan ds bs p text) h third
 
 -- and of what is shown
-pub subject_can : (s : Limits) (x : Subject) (plan : Plan) (ds : List Descriptor) (bs : List Bool)
+pub subject_can : (s : Limits) (x : Subject) (plan : Plan) (ds : List Operation) (bs : List Bool)
     → x.plan.now ≡ plan → x.pieces.now ≡ ds → x.barriers.now ≡ bs → CanBeExplained s ds bs plan → CanBeShown s x
 subject_can s x plan ds bs e f g can =
     let first = subst (λ (p : Plan). CanBeExplained s ds bs p) (sym e) can in
-    let second = subst (λ (p : List Descriptor). CanBeExplained s p bs x.plan.now) (sym f) first in
+    let second = subst (λ (p : List Operation). CanBeExplained s p bs x.plan.now) (sym f) first in
     subst (λ (p : List Bool). CanBeExplained s x.pieces.now p x.plan.now) (sym g) second
 
 -- ---- plans that can be explained
 
--- a plan of operations
-pub planned_can : (bs : List Bool) (s : Limits) (fs : List Fields) (p : Submission) (ms : List Bool) → PlansWith bs s fs (Ok p)
-    → ms ≡ piece_barriers s.greatest_transfer fs bs → CanBeExplained s p.pieces ms p.plan
-planned_can bs s fs p ms says are =
-    let by = says.of_pieces in
-    let C = PiecesConflict s fs bs (map fields p.pieces) in
-    subst (λ (marks : List Bool). CanBeExplained s p.pieces marks p.plan) (sym are)
-    (record {
-      few = omega (arith, sym (length-map p.pieces fields) ∙ ap length says.pieces_are ∙ length_all fs s.greatest_transfer, says.split.few.few);
-      legal = (shown_by C s (length p.pieces) p.plan p.certificate p.cost by.chosen by.version_is by.cost_is).legal;
-    })
+-- so many pieces, as operations
+few_operations : (ds : List Descriptor) → length ds ≤ most_pieces → length (map operation.Descriptor ds) ≤ most_pieces
+few_operations ds few = omega (arith, few, length-map ds operation.Descriptor)
 
 -- a plan that was judged
 pub judged_can : (ds : List Descriptor) (plan : Plan) (s : Limits) (cost : ℕ) → JudgesPiecesBy (WithBarriers (ConflictAt (map fields ds)) []) (map (λ d. d.size) ds) plan s (Ok cost)
-    → CanBeExplained s ds [] plan
+    → CanBeExplained s (map operation.Descriptor ds) [] plan
 judged_can ds plan s cost judges =
     let count : length (map (λ d. d.size) ds) ≡ length ds = length-map ds (λ d. d.size) in
     record {
-      few = omega (arith, count, judges.0);
-      legal = subst (λ (n : ℕ). IsLegal (WithBarriers (ConflictAt (map fields ds)) []) s.greatest_batch n plan) count judges.2;
+      few = few_operations ds (omega (arith, count, judges.0));
+      legal = legal_as_operations ds [] s.greatest_batch plan (subst (λ (n : ℕ). IsLegal (WithBarriers (ConflictAt (map fields ds)) []) s.greatest_batch n plan) count judges.2);
     }
 
 -- a plan that was checked
 pub checked_can : (ds : List Descriptor) (plan : Plan) (s : Limits) (certificate : Contents) (cost : ℕ) → length ds ≤ most_pieces
-    → ChecksPlanBy (WithBarriers (ConflictAt (map fields ds)) []) s (length ds) plan certificate (Ok cost) → CanBeExplained s ds [] plan
-checked_can ds plan s certificate cost few checks = record { few = few; legal = checks.legal }
+    → ChecksPlanBy (WithBarriers (ConflictAt (map fields ds)) []) s (length ds) plan certificate (Ok cost) → CanBeExplained s (map operation.Descriptor ds) [] plan
+checked_can ds plan s certificate cost few checks = record { few = few_operations ds few; legal = legal_as_operations ds [] s.greatest_batch plan checks.legal }
 
 -- ---- warnings
 
 -- what is said beside an answer, as warnings, changes neither its status nor its text
-pub plan_beside : (s : Limits) (plan : Plan) (ds : List Descriptor) (bs : List Bool) (origins : Labelling) (least : Option ℕ) (form : Form) (a b : Answer)
+pub plan_beside : (s : Limits) (plan : Plan) (ds : List Operation) (bs : List Bool) (origins : Labelling) (least : Option ℕ) (form : Form) (a b : Answer)
     → b.status ≡ a.status → b.text ≡ a.text → AnswersPlan s plan ds bs origins least form a → AnswersPlan s plan ds bs origins least form b
 plan_beside s plan ds bs origins least form a b status text (is_shown z shows) =
     is_shown (status ∙ z) (subst (λ (t : List ℕ). ShowsPlan form s plan ds bs origins least t) (sym (ap string_bytes text)) shows)
@@ -132,24 +122,16 @@ plan_beside s plan ds bs origins least form a b status text (is_untracked fault 
 pub judged_beside : (s : Limits) (plan : Plan) (ds : List Descriptor) (cost : ℕ) (form : Form) (a b : Answer)
     → b.status ≡ a.status → b.text ≡ a.text → AnswersJudged s plan ds cost form a → AnswersJudged s plan ds cost form b
 judged_beside s plan ds cost form a b status text (is_compared least compares is answers) =
-    is_compared least compares is (plan_beside s plan ds [] unlabelled least form a b status text answers)
+    is_compared least compares is (plan_beside s plan (map operation.Descriptor ds) [] unlabelled least form a b status text answers)
 judged_beside s plan ds cost form a b status text (is_waiting waits answers) =
-    is_waiting waits (plan_beside s plan ds [] unlabelled None form a b status text answers)
+    is_waiting waits (plan_beside s plan (map operation.Descriptor ds) [] unlabelled None form a b status text answers)
 judged_beside s plan ds cost form a b status text (is_told detail told z tells) =
     is_told detail told (status ∙ z) (subst (λ (t : List ℕ). TellsJudged s detail plan ds cost t) (sym (ap string_bytes text)) tells)
 
--- of planned operations, for a list that spells them
-pub operations_planned : {E : Type 0} (list : List ℕ) (bs : List Bool) (names : List (List ℕ)) (s : Limits) (form : Form) (ds : List Descriptor) (p : Submission) (r : Result Answer E) → IsListOf list ds
-    → PlansWith bs s (map fields ds) (Ok p) → (ms : List Bool) → ms ≡ piece_barriers s.greatest_transfer (map fields ds) bs
-    → IfOk r (AnswersPlan s p.plan p.pieces ms (labels_of s (map fields ds) names) (Some p.cost) form) → IfOk r (ExplainsList list bs names s form)
-operations_planned list bs names s form ds p r listed says ms are answers =
-    IfOk-weaker r _ _ (λ a shown. is_planned ds p listed says (subst (λ (marks : List Bool). AnswersPlan s p.plan p.pieces marks (labels_of s (map fields ds) names) (Some p.cost) form a) are shown)) answers
-
-pub operations_refused : {E : Type 0} (list : List ℕ) (bs : List Bool) (names : List (List ℕ)) (s : Limits) (form : Form) (ds : List Descriptor) (fault : PlanFault) (r : Result Answer E) → IsListOf list ds
-    → OrMemory {X = Submission} {Y = Submission} (λ p. p) (PlansWith bs s (map fields ds)) (Err fault) → IfOk r (IsRefusal fault) → IfOk r (ExplainsList list bs names s form)
-operations_refused list bs names s form ds fault r listed (inl is) h = IfOk-weaker r _ _ (λ a x. is_refused_list fault (inl is) x) h
-operations_refused list bs names s form ds fault r listed (inr says) h =
-    IfOk-weaker r _ _ (λ a x. is_refused_list fault (inr (inr (ds, listed, says))) x) h
+-- of operations that are refused
+pub operations_refused : {E : Type 0} (operations : List Operation) (bs : List Bool) (names : List (List ℕ)) (s : Limits) (form : Form) (fault : PlanFault) (r : Result Answer E)
+    → OrMemory planned_pieces_of (PlansRead s operations bs) (Err fault) → IfOk r (IsRefusal fault) → IfOk r (ExplainsOperations operations bs names s form)
+operations_refused operations bs names s form fault r told h = IfOk-weaker r _ _ (λ a x. is_refused fault told x) h
 
 -- the one cause is the one that is told
 pub same_cause : {E : Type 0} (r : Result Answer E) (told fault : PlanFault) (o p : Result ℕ PlanFault) → o ≡ p → o ≡ Err told → p ≡ Err fault → IfOk r (IsRefusal told) → IfOk r (IsRefusal fault)

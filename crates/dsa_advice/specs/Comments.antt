@@ -3,7 +3,7 @@ use Rattle.std.specs.Prelude.{◌≡◌, ℕ, ◌==◌, ◌&&◌, nat_lt, not, B
 use Rattle.std.specs.Char.{is_control}
 use Rattle.std.specs.List.{list_any}
 use Rattle.std.specs.Str.{chars, is_utf8, trim}
-use Rattle.dsa_descriptor.specs.Fields.{Fields}
+use Rattle.dsa_operations.specs.OperationFields.{OperationFields}
 use Rattle.dsa_lines.specs.TextLists.{NumberedLine, line_shown, operation_lines}
 use Rattle.dsa_lines.specs.Texts.{lines_of, TextSpells}
 use Rattle.dsa_advice.specs.declared.unplanned.Source.{Source}
@@ -44,4 +44,4 @@ names_from Job = []
 
 -- a text that spells operations has a name for each
 abbrev pub OneNameEach : Type 0
-OneNameEach = (text : List ℕ) (fs : List Fields) → TextSpells text fs → length (names_of (lines_of text)) ≡ length fs
+OneNameEach = (text : List ℕ) (fs : List OperationFields) → TextSpells text fs → length (names_of (lines_of text)) ≡ length fs

@@ -1,5 +1,5 @@
 -- What explaining a job answers (this project's choice).
-use Rattle.std.specs.Prelude.{ℕ, List, [], Ok, Err}
+use Rattle.std.specs.Prelude.{ℕ, List, Ok, Err}
 use Rattle.dsa_plan.specs.Certificate.{contents}
 use Rattle.dsa_calls.specs.declared.fault.PlanFault.{PlanFault}
 use Rattle.dsa_calls.specs.declared.fault.PlanFault.TheVariants.{Do}
@@ -9,12 +9,12 @@ use Rattle.dsa_report.specs.Read.{ReadsJobText}
 use Rattle.dsa_advice.specs.declared.answer.Answer.{Answer}
 use Rattle.dsa_advice.specs.declared.form.Form.{Form}
 use Rattle.dsa_advice.specs.Refusals.{IsRefusal}
-use Rattle.dsa_advice.specs.Explained.{ExplainsChecked, ExplainsJudged, ExplainsList}
+use Rattle.dsa_advice.specs.Explained.{ExplainsChecked, ExplainsJobList, ExplainsJudged}
 
 -- for a job to plan, to judge or to check, the answer for its members; a job to replay or to run is
 -- refused
 abbrev pub ExplainsJob : Job → Form → Answer → Type 0
-ExplainsJob (Plan job) form a = ExplainsList job.list.items [] [] job.settings form a
+ExplainsJob (Plan job) form a = ExplainsJobList job.list.items job.settings form a
 ExplainsJob (Judge job) form a = ExplainsJudged job.list.items job.plan job.settings form a
 ExplainsJob (Check job) form a =
     ExplainsChecked job.portal.items job.staging.items job.settings (contents job.certificate) form a

@@ -1,6 +1,6 @@
 -- What explaining a plan of pieces answers (this project's choice).
 use Rattle.std.specs.Prelude.{◌≡◌, ◌+◌, ◌-◌, ◌<◌, ◌≤◌, ℕ, nat_lt, Bool, List, [], ◌∷◌, ◌++◌, codes, decimal, length, string_bytes, Option, if◌then◌else◌}
-use Rattle.dsa_descriptor.specs.declared.descriptor.Descriptor.{Descriptor}
+use Rattle.dsa_operations.specs.declared.operation.Operation.{Operation}
 use Rattle.dsa_sentences.specs.declared.causes.TextCause.TheVariants.{Picture as Large}
 use Rattle.dsa_sentences.specs.Endings.{ending_of}
 use Rattle.dsa_plan.specs.Plan.{Plan}
@@ -49,27 +49,27 @@ abbrev pub unlabelled : Labelling
 unlabelled = record { origins = []; names = [] }
 
 -- the text is the explanation of the plan in words, and the plan can be explained
-pub record TellsPlan (s : Limits) (detail : Detail) (plan : Plan) (pieces : List Descriptor) (barriers : List Bool) (labels : Labelling) (text : List ℕ) : Type 0 where
+pub record TellsPlan (s : Limits) (detail : Detail) (plan : Plan) (pieces : List Operation) (barriers : List Bool) (labels : Labelling) (text : List ℕ) : Type 0 where
   pub can : CanBeExplained s pieces barriers plan
   pub explanation : Explanation
   pub is : IsExplanationOf s detail pieces barriers plan explanation
   pub words : text ≡ explanation_words s detail explanation pieces labels
 
 -- the text is the line of the explanation in JSON, with all conflicts and what a least plan costs, if that is known
-pub record SpellsPlan (s : Limits) (plan : Plan) (pieces : List Descriptor) (barriers : List Bool) (labels : Labelling) (least : Option ℕ) (text : List ℕ) : Type 0 where
+pub record SpellsPlan (s : Limits) (plan : Plan) (pieces : List Operation) (barriers : List Bool) (labels : Labelling) (least : Option ℕ) (text : List ℕ) : Type 0 where
   pub can : CanBeExplained s pieces barriers plan
   pub explanation : Explanation
   pub is : IsExplanationOf s Every pieces barriers plan explanation
   pub line : text ≡ explanation_line explanation pieces labels least
 
 -- the text is a picture, the plan can be explained, and few of its groups are drawn
-pub record DrawsPlan (range : PieceRange) (s : Limits) (plan : Plan) (pieces : List Descriptor) (barriers : List Bool) (text : List ℕ) : Type 0 where
+pub record DrawsPlan (range : PieceRange) (s : Limits) (plan : Plan) (pieces : List Operation) (barriers : List Bool) (text : List ℕ) : Type 0 where
   pub can : CanBeExplained s pieces barriers plan
   pub few : drawn_groups range.first range.last plan ≤ most_rows
   pub picture : IsPicture text
 
 -- the text says what each group waits for, and the plan can be explained
-pub record TellsWaits (s : Limits) (plan : Plan) (pieces : List Descriptor) (barriers : List Bool) (text : List ℕ) : Type 0 where
+pub record TellsWaits (s : Limits) (plan : Plan) (pieces : List Operation) (barriers : List Bool) (text : List ℕ) : Type 0 where
   pub can : CanBeExplained s pieces barriers plan
   pub slots : List ℕ
   pub sets : List Slots
@@ -77,7 +77,7 @@ pub record TellsWaits (s : Limits) (plan : Plan) (pieces : List Descriptor) (bar
   pub words : text ≡ waits_words slots sets
 
 -- the plan in a form
-abbrev pub ShowsPlan : Form → Limits → Plan → List Descriptor → List Bool → Labelling → Option ℕ → List ℕ → Type 0
+abbrev pub ShowsPlan : Form → Limits → Plan → List Operation → List Bool → Labelling → Option ℕ → List ℕ → Type 0
 ShowsPlan (Words detail) s plan pieces barriers labels least text = TellsPlan s detail plan pieces barriers labels text
 ShowsPlan (Picture range) s plan pieces barriers labels least text = DrawsPlan range s plan pieces barriers text
 ShowsPlan Json s plan pieces barriers labels least text = SpellsPlan s plan pieces barriers labels least text
@@ -95,7 +95,7 @@ untracked fault =
 
 -- A plan that can be explained is shown, with status 0. It is refused if too many of its groups are to be drawn, or if a
 -- tracker refuses its groups.
-pub data AnswersPlan (s : Limits) (plan : Plan) (pieces : List Descriptor) (barriers : List Bool) (labels : Labelling) (least : Option ℕ) (form : Form) (a : Answer) : Type 0 where
+pub data AnswersPlan (s : Limits) (plan : Plan) (pieces : List Operation) (barriers : List Bool) (labels : Labelling) (least : Option ℕ) (form : Form) (a : Answer) : Type 0 where
   is_shown : a.status ≡ 0 → ShowsPlan form s plan pieces barriers labels least (string_bytes a.text) → AnswersPlan s plan pieces barriers labels least form a
   is_too_large : (range : PieceRange) → form ≡ Picture range → CanBeExplained s pieces barriers plan → most_rows < drawn_groups range.first range.last plan → a.status ≡ 1
       → string_bytes a.text ≡ too_many_groups (drawn_groups range.first range.last plan) → AnswersPlan s plan pieces barriers labels least form a

@@ -3,11 +3,11 @@
 use crate::notes::Notes;
 use crate::origins::count_of;
 use crate::unplanned::Source;
-use dsa_descriptor::Descriptor;
 use dsa_lines::{OperationLine, line_of_operation};
+use dsa_operations::Operation;
 use dsa_plan::{Plan, Settings};
 use dsa_settings::cuts_of;
-use dsa_warnings::{Concern, check_concern};
+use dsa_warnings::{Concern, Concerned, check_concern};
 use std::alloc::{AllocError, Global};
 
 /// The note on a compare whose result is not checked, with a barrier after it.
@@ -34,7 +34,7 @@ fn note_on(concern: Option<Concern>) -> Option<&'static str> {
 pub(crate) fn check_notes(
     alloc: Global,
     source: Source<'_>,
-    operations: &[Descriptor],
+    operations: &[Operation],
     marks: &[bool],
     plan: &Plan,
     settings: &Settings,
@@ -49,7 +49,10 @@ pub(crate) fn check_notes(
         next = next.saturating_add(count_of(d, settings));
         let is_before_barrier = last.is_some_and(|barrier| operation < barrier);
         let goes_on = cuts.get(next).copied() == Some(false);
-        if let Some(cause) = note_on(check_concern(d, is_before_barrier, goes_on)) {
+        let concern = d
+            .descriptor()
+            .and_then(|d| check_concern(d, is_before_barrier, goes_on));
+        if let Some(cause) = note_on(concern) {
             if notes.count() {
                 notes.write(&note_of(alloc, lines, operation, cause)?)?;
             }

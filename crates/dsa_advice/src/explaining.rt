@@ -13,7 +13,7 @@ ghost use Rattle.dsa_calls.specs.Lists.{IsListOf};
 ghost use Rattle.dsa_explain.specs.Explained.{CanBeExplained};
 ghost use Rattle.dsa_explain.specs.Runs.{labelling};
 ghost use Rattle.dsa_advice.specs.Comments.{names_from};
-ghost use Rattle.dsa_advice.specs.Explained.{ExplainsChecked, ExplainsList, ExplainsText, labels_of};
+ghost use Rattle.dsa_advice.specs.Explained.{ExplainsChecked, ExplainsJobList, ExplainsList, ExplainsOperations, ExplainsText, labels_of};
 ghost use Rattle.dsa_advice.specs.Refusals.{IsRefusal};
 ghost use Rattle.dsa_advice.specs.Shown.{AnswersPlan};
 
@@ -30,24 +30,26 @@ use crate::overwritten::overwritten_notes;
 use crate::rows::warnings_of;
 use crate::shown::{Subject, answer_plan, plain};
 use crate::unplanned::{Source, refuse_unplanned};
-use dsa_calls::{PlanFault, Planned, check_plan, plan_operations};
-use dsa_descriptor::{Descriptor, DescriptorList, read_descriptor_list, read_list};
+use dsa_calls::{PlanFault, check_plan};
+use dsa_descriptor::{Descriptor, read_entries, read_list};
 use dsa_explain::{Buffer, Labels};
 use dsa_lines::parse_text;
+use dsa_lists::{AnyPlanned, as_operation_list, operations_of, plan_read_list};
+use dsa_operations::{Operation, OperationList};
 use dsa_plan::{Certificate, Plan, Settings, read_emission};
 use std::alloc::{AllocError, Global};
 
 /// What was planned, to be shown.
-fn subject_of<'a>(planned: &'a Planned, labels: Labels<'a>, buffers: &'a [Buffer]) -> Subject<'a>
+fn subject_of<'a>(planned: &'a AnyPlanned, labels: Labels<'a>, buffers: &'a [Buffer]) -> Subject<'a>
     ensures plan { result.plan.now ≡ planned.now.plan }
-    ensures pieces { result.pieces.now ≡ planned.now.pieces.items }
+    ensures pieces { result.pieces.now ≡ planned.now.operations.items }
     ensures barriers { result.barriers.now ≡ planned.now.barriers.items }
     ensures labels { labelling result.labels ≡ labelling labels.entry }
     ensures least { result.least ≡ Some planned.now.cost }
 {
     Subject {
         plan: &planned.plan,
-        pieces: &planned.pieces,
+        pieces: &planned.operations,
         barriers: &planned.barriers,
         labels,
         buffers,
@@ -58,21 +60,20 @@ fn subject_of<'a>(planned: &'a Planned, labels: Labels<'a>, buffers: &'a [Buffer
 /// The answer for planned operations.
 fn answer_planned(
     alloc: Global,
-    operations: &DescriptorList,
-    planned: &Planned,
+    operations: &[Operation],
+    planned: &AnyPlanned,
     settings: &Settings,
     form: Form,
     source: Source<'_>,
 ) -> Result<Answer, AllocError>
-    requires { CanBeExplained settings.now planned.now.pieces.items planned.now.barriers.items
-        planned.now.plan }
-    ensures { IfOk result (AnswersPlan settings.now planned.now.plan planned.now.pieces.items
+    requires { CanBeExplained settings.now planned.now.operations.items
+        planned.now.barriers.items planned.now.plan }
+    ensures { IfOk result (AnswersPlan settings.now planned.now.plan planned.now.operations.items
         planned.now.barriers.items
-        (labels_of settings.now (map fields operations.now.descriptors.items)
-        (names_from source.entry))
+        (labels_of settings.now operations.now (names_from source.entry))
         (Some planned.now.cost) form) }
 {
-    let origins = origins_of(alloc, &operations.descriptors, settings)?;
+    let origins = origins_of(alloc, operations, settings)?;
     let comments = comments_in(alloc, source, matches!(form, Form::Picture(_)))?;
     let labels = Labels {
         origins: &origins,
@@ -85,7 +86,7 @@ fn answer_planned(
 /// The notes and warnings about the operations themselves: about their records, and about regions that overlap.
 pub(crate) fn operation_notes(
     alloc: Global,
-    operations: &[Descriptor],
+    operations: &[Operation],
     settings: &Settings,
 ) -> Result<Option<String>, AllocError> {
     let shared = warnings_of(alloc, operations, settings)?;
@@ -98,22 +99,21 @@ pub(crate) fn operation_notes(
 /// not keep, about barriers that a tracker does not see, about the text, and about what the list does not have.
 fn answer_with_warnings(
     alloc: Global,
-    list: &DescriptorList,
-    planned: &Planned,
+    list: &OperationList,
+    planned: &AnyPlanned,
     settings: &Settings,
     form: Form,
     source: Source<'_>,
 ) -> Result<Answer, AllocError>
-    requires { CanBeExplained settings.now planned.now.pieces.items planned.now.barriers.items
-        planned.now.plan }
-    ensures { IfOk result (AnswersPlan settings.now planned.now.plan planned.now.pieces.items
+    requires { CanBeExplained settings.now planned.now.operations.items
+        planned.now.barriers.items planned.now.plan }
+    ensures { IfOk result (AnswersPlan settings.now planned.now.plan planned.now.operations.items
         planned.now.barriers.items
-        (labels_of settings.now (map fields list.now.descriptors.items)
-        (names_from source.entry))
+        (labels_of settings.now list.now.entries.items (names_from source.entry))
         (Some planned.now.cost) form) }
 {
-    let answer = answer_planned(alloc, list, planned, settings, form, source)?;
-    let (operations, marks) = (list.descriptors.as_slice(), list.barriers.as_slice());
+    let (operations, marks) = (list.entries.as_slice(), list.barriers.as_slice());
+    let answer = answer_planned(alloc, operations, planned, settings, form, source)?;
     let barriers = barrier_notes(alloc, source, marks, form)?;
     let fences = unkept_notes(alloc, source, operations, marks, &planned.plan, settings)?;
     let of_barriers = joined(barriers, fences)?;
@@ -128,34 +128,34 @@ fn answer_with_warnings(
 /// What the plan of least cost of these operations and barriers does and why.
 fn explain_operations(
     alloc: Global,
-    operations: &DescriptorList,
+    list: &OperationList,
     settings: &Settings,
     form: Form,
     source: Source<'_>,
 ) -> Result<Answer, AllocError>
-    ensures { (list : List ℕ) → IsListOf list operations.now.descriptors.items →
-        IfOk result (ExplainsList list operations.now.barriers.items
+    ensures { IfOk result (ExplainsOperations list.now.entries.items list.now.barriers.items
         (names_from source.entry) settings.now form) }
 {
-    match plan_operations(alloc, operations, settings) {
-        Ok(planned) => answer_with_warnings(alloc, operations, &planned, settings, form, source),
-        Err(fault) => refuse_unplanned(alloc, &operations.descriptors, settings, source, fault),
+    match plan_read_list(alloc, list, settings) {
+        Ok(planned) => answer_with_warnings(alloc, list, &planned, settings, form, source),
+        Err(fault) => refuse_unplanned(alloc, &list.entries, settings, source, fault),
     }
 }
 
-/// What the plan of least cost of a list without barriers does and why, in this form.
+/// What the plan of least cost of the list of a job does and why, in this form. Such a list has neither barriers nor
+/// checksums.
 pub fn explain_list(
     alloc: Global,
     list: &[u8],
     settings: &Settings,
     form: Form,
 ) -> Result<Answer, AllocError>
-    ensures { IfOk result (ExplainsList list.now [] [] settings.now form) }
+    ensures { IfOk result (ExplainsJobList list.now settings.now form) }
 {
     match read_list(alloc, list) {
-        Ok(operations) => {
-            let plain = DescriptorList::without_barriers(alloc, operations);
-            explain_operations(alloc, &plain, settings, form, Source::Job)
+        Ok(descriptors) => {
+            let operations = as_operation_list(alloc, &descriptors)?;
+            explain_operations(alloc, &operations, settings, form, Source::Job)
         }
         Err(fault) => Answer::list_fault(alloc, list, fault),
     }
@@ -168,10 +168,9 @@ pub fn explain_fenced(
     settings: &Settings,
     form: Form,
 ) -> Result<Answer, AllocError>
-    ensures { IfOk result (ExplainsList
-        (unfenced_list list.now) (barriers_of list.now) [] settings.now form) }
+    ensures { IfOk result (ExplainsList list.now settings.now form) }
 {
-    match read_descriptor_list(alloc, list) {
+    match read_entries::<Operation>(alloc, list) {
         Ok(operations) => explain_operations(alloc, &operations, settings, form, Source::List),
         Err(fault) => Answer::list_fault(alloc, list, fault),
     }
@@ -215,7 +214,10 @@ fn explain_emission(
         IfOk result (IsRefusal fault) }
 {
     match check_plan(pieces, &[], settings, plan, certificate) {
-        Ok(cost) => answer_plan(alloc, &plain(plan, pieces, Some(cost)), settings, form),
+        Ok(cost) => {
+            let operations = operations_of(alloc, pieces)?;
+            answer_plan(alloc, &plain(plan, &operations, Some(cost)), settings, form)
+        }
         Err(fault) => Answer::fault(alloc, fault),
     }
 }

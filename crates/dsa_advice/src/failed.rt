@@ -4,9 +4,9 @@ use crate::forgone::is_given_up;
 use crate::notes::Notes;
 use crate::origins::origins_of;
 use crate::unfit::{STATUS, fault_address};
-use dsa_descriptor::Descriptor;
 use dsa_explain::Origin;
 use dsa_lines::{OperationLine, line_of_operation};
+use dsa_operations::Operation;
 use dsa_plan::Settings;
 use std::alloc::{AllocError, Global};
 
@@ -67,7 +67,7 @@ fn line_of(
 pub(crate) fn failed_notes(
     alloc: Global,
     lines: &[OperationLine<'_>],
-    operations: &[Descriptor],
+    operations: &[Operation],
     settings: &Settings,
     records: &[[u8; 32]],
     given_up: &[u8],

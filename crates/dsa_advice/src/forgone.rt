@@ -1,13 +1,15 @@
 //! Warnings about pieces that read what another would have written that is given up.
 
-ghost use Rattle.std.specs.Prelude.{◌≡◌, ℕ, [], length};
-ghost use Rattle.dsa_descriptor.specs.Data.{sources, targets};
+ghost use Rattle.std.specs.Prelude.{◌≡◌, ℕ, [], drop, length};
+ghost use Rattle.dsa_operations.specs.Operations.{reads_of, writes_of};
 
 use crate::notes::Notes;
 use arrayvec::ArrayVec;
 use dsa_conflicts::Sweep;
-use dsa_descriptor::{Descriptor, MOST_PIECES, are_addressable};
-use dsa_ranges::{Touched, find_hazard, touched};
+use dsa_descriptor::{MOST_PIECES, are_addressable};
+use dsa_operations::Operation;
+use dsa_ranges::{Touched, Touching, find_hazard};
+use dsa_tracker::Tracked;
 use std::alloc::{AllocError, Global};
 use std::marker::Model;
 
@@ -32,13 +34,13 @@ pub(crate) fn is_given_up(given_up: &[u8], piece: usize) -> bool {
 }
 
 /// The data that a piece writes, without its record.
-fn written_by(piece: &Descriptor) -> Touched
+fn written_by(piece: &Operation) -> Touched
     ensures reads { result.reads.items ≡ [] }
-    ensures writes { result.writes.items ≡ targets piece.now.op piece.now.size }
+    ensures writes { result.writes.items ≡ drop 1 (writes_of piece.now) }
 {
     let mut writes = ArrayVec::new();
     writes
-        .try_extend_from_slice(piece.op.targets(piece.size).as_slice())
+        .try_extend_from_slice(piece.targets().as_slice())
         .unwrap();
     Touched {
         reads: ArrayVec::new(),
@@ -47,12 +49,12 @@ fn written_by(piece: &Descriptor) -> Touched
 }
 
 /// What a piece reads.
-fn read_by(piece: &Descriptor) -> Touched
-    ensures reads { result.reads.items ≡ sources piece.now.op piece.now.size }
+fn read_by(piece: &Operation) -> Touched
+    ensures reads { result.reads.items ≡ reads_of piece.now }
     ensures writes { result.writes.items ≡ [] }
 {
     Touched {
-        reads: touched(piece).reads,
+        reads: piece.touched_spans().reads,
         writes: ArrayVec::new(),
     }
 }
@@ -67,7 +69,7 @@ impl Forgone {
     }
 
     /// Adds a piece that is given up.
-    fn push(self, number: usize, piece: &Descriptor) -> Result<Forgone, AllocError> {
+    fn push(self, number: usize, piece: &Operation) -> Result<Forgone, AllocError> {
         let Forgone { writes, mut pieces } = self;
         let spans = written_by(piece);
         if pieces.len() >= MOST_PIECES || !are_addressable(&spans.writes) {
@@ -79,7 +81,7 @@ impl Forgone {
     }
 
     /// The last piece that was to write what this one reads.
-    fn last_before(&self, piece: &Descriptor) -> Option<usize> {
+    fn last_before(&self, piece: &Operation) -> Option<usize> {
         let spans = read_by(piece);
         if !are_addressable(&spans.reads) {
             return None;
@@ -92,7 +94,7 @@ impl Forgone {
 /// The line of a piece that reads what the earlier one was to write.
 fn line_of(
     alloc: Global,
-    pieces: &[Descriptor],
+    pieces: &[Operation],
     earlier: usize,
     later: usize,
 ) -> Result<String, AllocError> {
@@ -111,7 +113,7 @@ fn line_of(
 /// there are. What is after a barrier is left out then.
 pub(crate) fn forgone_notes(
     alloc: Global,
-    pieces: &[Descriptor],
+    pieces: &[Operation],
     barriers: &[bool],
     records: &[[u8; 32]],
     given_up: &[u8],

@@ -7,6 +7,7 @@ ghost use Rattle.dsa_calls.specs.declared.fault.PlanFault.TheVariants.{Memory};
 ghost use Rattle.dsa_calls.specs.Judge.{Judges, JudgesPieces};
 ghost use Rattle.dsa_calls.specs.Lists.{IsListOf};
 ghost use Rattle.dsa_explain.specs.Explained.{CanBeExplained};
+ghost use Rattle.dsa_operations.specs.declared.operation.Operation.TheVariants as operation;
 ghost use Rattle.dsa_advice.specs.declared.form.Form.TheVariants.{Words, Waits};
 ghost use Rattle.dsa_advice.specs.Explained.{AnswersJudged, ComparesCosts, ExplainsJudged, IsLeastCost, least_words, more_words};
 ghost use Rattle.dsa_advice.specs.Refusals.{IsRefusal};
@@ -19,6 +20,7 @@ use crate::shown::{answer_plan, plain, plan_words};
 use dsa_calls::{PlanFault, judge_pieces, plan_operations};
 use dsa_descriptor::{Descriptor, DescriptorList, read_list};
 use dsa_explain::Detail;
+use dsa_lists::operations_of;
 use dsa_plan::{LegalFault, Plan, Settings};
 use std::alloc::{AllocError, Global};
 
@@ -77,12 +79,14 @@ fn judged_words(
     cost: u64,
     detail: Detail,
 ) -> Result<Answer, AllocError>
-    requires can { CanBeExplained settings.now list.now.descriptors.items [] plan.now }
+    requires can { CanBeExplained settings.now
+        (map operation.Descriptor list.now.descriptors.items) [] plan.now }
     requires plain { list.now.barriers.items ≡ [] }
     ensures { IfOk result
         (AnswersJudged settings.now plan.now list.now.descriptors.items cost (Words detail)) }
 {
-    let subject = plain(plan, &list.descriptors, None);
+    let pieces = operations_of(alloc, &list.descriptors)?;
+    let subject = plain(plan, &pieces, None);
     let mut text = plan_words(alloc, &subject, settings, detail)?;
     let least = least_cost(alloc, list, settings)?;
     text.push_str(&least_text(alloc, cost, least)?)?;
@@ -98,19 +102,16 @@ fn judged_with_least(
     cost: u64,
     form: Form,
 ) -> Result<Answer, AllocError>
-    requires can { CanBeExplained settings.now list.now.descriptors.items [] plan.now }
+    requires can { CanBeExplained settings.now
+        (map operation.Descriptor list.now.descriptors.items) [] plan.now }
     requires plain { list.now.barriers.items ≡ [] }
     requires compares { ComparesCosts form }
     ensures { IfOk result
         (AnswersJudged settings.now plan.now list.now.descriptors.items cost form) }
 {
     let least = least_cost(alloc, list, settings)?;
-    answer_plan(
-        alloc,
-        &plain(plan, &list.descriptors, least),
-        settings,
-        form,
-    )
+    let pieces = operations_of(alloc, &list.descriptors)?;
+    answer_plan(alloc, &plain(plan, &pieces, least), settings, form)
 }
 
 /// A judged plan by what its groups wait for.
@@ -121,16 +122,13 @@ fn judged_waits(
     settings: &Settings,
     cost: u64,
 ) -> Result<Answer, AllocError>
-    requires { CanBeExplained settings.now list.now.descriptors.items [] plan.now }
+    requires { CanBeExplained settings.now
+        (map operation.Descriptor list.now.descriptors.items) [] plan.now }
     ensures { IfOk result
         (AnswersJudged settings.now plan.now list.now.descriptors.items cost Waits) }
 {
-    answer_plan(
-        alloc,
-        &plain(plan, &list.descriptors, None),
-        settings,
-        Form::Waits,
-    )
+    let pieces = operations_of(alloc, &list.descriptors)?;
+    answer_plan(alloc, &plain(plan, &pieces, None), settings, Form::Waits)
 }
 
 /// The answer of a judged plan in a form.
@@ -142,7 +140,8 @@ fn judged_in_form(
     cost: u64,
     form: Form,
 ) -> Result<Answer, AllocError>
-    requires can { CanBeExplained settings.now list.now.descriptors.items [] plan.now }
+    requires can { CanBeExplained settings.now
+        (map operation.Descriptor list.now.descriptors.items) [] plan.now }
     requires plain { list.now.barriers.items ≡ [] }
     ensures { IfOk result
         (AnswersJudged settings.now plan.now list.now.descriptors.items cost form) }
@@ -165,13 +164,15 @@ fn answer_judged(
     cost: u64,
     form: Form,
 ) -> Result<Answer, AllocError>
-    requires can { CanBeExplained settings.now list.now.descriptors.items [] plan.now }
+    requires can { CanBeExplained settings.now
+        (map operation.Descriptor list.now.descriptors.items) [] plan.now }
     requires plain { list.now.barriers.items ≡ [] }
     ensures { IfOk result
         (AnswersJudged settings.now plan.now list.now.descriptors.items cost form) }
 {
     let answer = judged_in_form(alloc, plan, list, settings, cost, form)?;
-    Ok(answer.with_warnings(operation_notes(alloc, &list.descriptors, settings)?))
+    let pieces = operations_of(alloc, &list.descriptors)?;
+    Ok(answer.with_warnings(operation_notes(alloc, &pieces, settings)?))
 }
 
 /// The refusal of a given plan. If the plan lacks fences, the refusal lists each of them.

@@ -5,8 +5,9 @@ use crate::form::Form;
 use crate::notes::Notes;
 use crate::origins::count_of;
 use crate::unplanned::Source;
-use dsa_descriptor::{Descriptor, mark_at};
+use dsa_descriptor::mark_at;
 use dsa_lines::{OperationLine, line_of_operation};
+use dsa_operations::Operation;
 use dsa_plan::{Plan, Settings};
 use dsa_settings::cuts_of;
 use std::alloc::{AllocError, Global};
@@ -60,7 +61,7 @@ pub fn fenced_in(
 fn unkept_in(
     alloc: Global,
     fenced: &[usize],
-    operations: &[Descriptor],
+    operations: &[Operation],
     plan: &Plan,
     settings: &Settings,
 ) -> Result<Vec<usize>, AllocError> {
@@ -106,7 +107,7 @@ pub fn fence_lines(
 pub(crate) fn unkept_notes(
     alloc: Global,
     source: Source<'_>,
-    operations: &[Descriptor],
+    operations: &[Operation],
     marks: &[bool],
     plan: &Plan,
     settings: &Settings,

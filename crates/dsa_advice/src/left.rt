@@ -7,11 +7,14 @@ use crate::origins::count_of;
 use crate::overwritten::overwritten_notes;
 use crate::rows::warnings_of;
 use crate::unfit::unfit_notes;
-use dsa_calls::{PlanFault, Planned, plan_operations};
-use dsa_descriptor::{Descriptor, DescriptorList, Op};
+use dsa_calls::PlanFault;
+use dsa_descriptor::{Descriptor, Op};
 use dsa_lines::TextList;
+use dsa_lists::{AnyPlanned, plan_read_list};
+use dsa_operations::{Operation, OperationList};
 use dsa_plan::Settings;
 use dsa_settings::cuts_of;
+use dsa_warnings::Concerned;
 use std::alloc::{AllocError, Global};
 
 /// A piece that has begun, though an earlier one of another epoch has not succeeded.
@@ -68,7 +71,7 @@ fn early_in(cuts: &[bool], completions: &[[u8; 32]]) -> Option<Early> {
 }
 
 /// How many pieces operations have.
-fn piece_total(operations: &[Descriptor], settings: &Settings) -> usize {
+fn piece_total(operations: &[Operation], settings: &Settings) -> usize {
     let mut total: usize = 0;
     for d in operations {
         total = total.saturating_add(count_of(d, settings));
@@ -77,7 +80,12 @@ fn piece_total(operations: &[Descriptor], settings: &Settings) -> usize {
 }
 
 /// Whether a piece is a move that overwrites a part of what it reads with other bytes.
-fn overwrites_its_source(piece: &Descriptor) -> bool {
+fn overwrites_its_source(piece: &Operation) -> bool {
+    piece.descriptor().is_some_and(moves_over_its_source)
+}
+
+/// The same of a descriptor.
+fn moves_over_its_source(piece: &Descriptor) -> bool {
     match piece.op {
         Op::Move { src, dst } => src != dst && src.abs_diff(dst) < u64::from(piece.size),
         Op::Fill { .. }
@@ -91,7 +99,7 @@ fn overwrites_its_source(piece: &Descriptor) -> bool {
 /// The warning about the first piece that is to be done again, and may have overwritten what it reads.
 fn source_note(
     alloc: Global,
-    pieces: &[Descriptor],
+    pieces: &[Operation],
     completions: &[[u8; 32]],
     given_up: &[u8],
 ) -> Result<Option<String>, AllocError> {
@@ -110,12 +118,12 @@ fn source_note(
 /// The warnings about these records of a planned list.
 fn planned_notes(
     alloc: Global,
-    planned: &Planned,
+    planned: &AnyPlanned,
     records: &[u8],
     given_up: &[u8],
 ) -> Result<Option<String>, AllocError> {
-    let Planned {
-        pieces,
+    let AnyPlanned {
+        operations: pieces,
         barriers,
         ..
     } = planned;
@@ -130,12 +138,12 @@ fn planned_notes(
 /// The warnings about these records of a list, if it can be planned.
 fn records_notes(
     alloc: Global,
-    operations: &DescriptorList,
+    operations: &OperationList,
     settings: &Settings,
     records: &[u8],
     given_up: &[u8],
 ) -> Result<Option<String>, AllocError> {
-    match plan_operations(alloc, operations, settings) {
+    match plan_read_list(alloc, operations, settings) {
         Ok(planned) => planned_notes(alloc, &planned, records, given_up),
         Err(fault) if fault == PlanFault::Memory => Err(AllocError),
         Err(_) => Ok(None),
@@ -145,7 +153,7 @@ fn records_notes(
 /// The warning about records that submitting the groups of a plan in turn does not leave.
 fn early_note(
     alloc: Global,
-    planned: &Planned,
+    planned: &AnyPlanned,
     completions: &[[u8; 32]],
 ) -> Result<Option<String>, AllocError> {
     let cuts = cuts_of(alloc, &planned.plan)?;
@@ -171,7 +179,7 @@ pub fn resume_notes(
     records: &[u8],
     given_up: &[u8],
 ) -> Result<Option<String>, AllocError> {
-    let operations = read.list.descriptors.as_slice();
+    let operations = read.list.entries.as_slice();
     let (pieces, given) = (piece_total(operations, settings), records.len());
     let needed = pieces.saturating_mul(32);
     if given != needed {

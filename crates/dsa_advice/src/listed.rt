@@ -3,7 +3,7 @@
 use crate::comments::comment_of;
 use crate::unplanned::Source;
 use crate::words::line_at;
-use dsa_descriptor::Descriptor;
+use dsa_operations::Operation;
 use std::alloc::{AllocError, Global};
 
 /// How the first line of the list of a recording begins that has no operations.
@@ -29,7 +29,7 @@ fn left_in<'a>(source: Source<'a>) -> Option<&'a str> {
 pub(crate) fn listed_note(
     alloc: Global,
     source: Source<'_>,
-    operations: &[Descriptor],
+    operations: &[Operation],
 ) -> Result<Option<String>, AllocError> {
     let left = left_in(source);
     let mut text = String::new(alloc);

@@ -1,20 +1,23 @@
 //! Notes on moves whose source and destination overlap.
 
 use crate::notes::Notes;
-use dsa_descriptor::Descriptor;
+use dsa_operations::Operation;
 use dsa_plan::Settings;
+use dsa_warnings::Concerned;
 use std::alloc::{AllocError, Global};
 
 /// Whether a piece of an operation moves bytes within one range.
-fn overlaps(d: &Descriptor, settings: &Settings) -> bool {
-    let longest = u64::from(d.size).min(settings.greatest_transfer());
-    dsa_warnings::overlaps(&d.op, longest)
+fn overlaps(operation: &Operation, settings: &Settings) -> bool {
+    operation.descriptor().is_some_and(|d| {
+        let longest = u64::from(d.size).min(settings.greatest_transfer());
+        dsa_warnings::overlaps(&d.op, longest)
+    })
 }
 
 /// A line for each move that has a piece whose source and destination overlap.
 pub(crate) fn overlap_notes(
     alloc: Global,
-    operations: &[Descriptor],
+    operations: &[Operation],
     settings: &Settings,
 ) -> Result<Option<String>, AllocError> {
     let mut notes = Notes::new(alloc);

@@ -3,8 +3,10 @@
 
 use crate::notes::{Notes, push_span};
 use crate::rows::{Row, rows_of};
-use dsa_descriptor::{Descriptor, Span};
+use dsa_descriptor::Span;
+use dsa_operations::Operation;
 use dsa_plan::Settings;
+use dsa_tracker::Tracked;
 use std::alloc::{AllocError, Global};
 
 /// Data of an operation, and the records of another that it meets.
@@ -43,8 +45,8 @@ fn row_at(rows: &[Row], farthest: &[Row], span: Span) -> Option<Row> {
 }
 
 /// The first data that an operation writes which meets the records of another.
-fn written_over(d: &Descriptor, rows: &[Row], farthest: &[Row]) -> Option<Meeting> {
-    for data in d.op.targets(d.size) {
+fn written_over(d: &Operation, rows: &[Row], farthest: &[Row]) -> Option<Meeting> {
+    for data in d.targets() {
         if let Some(row) = row_at(rows, farthest, data) {
             return Some(Meeting {
                 data,
@@ -57,13 +59,8 @@ fn written_over(d: &Descriptor, rows: &[Row], farthest: &[Row]) -> Option<Meetin
 }
 
 /// The first data that an operation reads which meets the records of a later one.
-fn read_before(
-    operation: usize,
-    d: &Descriptor,
-    rows: &[Row],
-    farthest: &[Row],
-) -> Option<Meeting> {
-    for data in d.op.sources(d.size) {
+fn read_before(operation: usize, d: &Operation, rows: &[Row], farthest: &[Row]) -> Option<Meeting> {
+    for data in d.sources() {
         if let Some(row) = row_at(rows, farthest, data).filter(|row| operation < row.operation) {
             return Some(Meeting {
                 data,
@@ -97,7 +94,7 @@ fn line_of(alloc: Global, operation: usize, meeting: Meeting) -> Result<String, 
 /// has them.
 pub(crate) fn overwritten_notes(
     alloc: Global,
-    operations: &[Descriptor],
+    operations: &[Operation],
     settings: &Settings,
 ) -> Result<Option<String>, AllocError> {
     let rows = rows_of(alloc, operations, settings)?;

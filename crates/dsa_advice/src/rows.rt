@@ -2,8 +2,10 @@
 
 use crate::notes::{Notes, push_span};
 use crate::origins::count_of;
-use dsa_descriptor::{Descriptor, RECORD_LEN, Span};
+use dsa_descriptor::{RECORD_LEN, Span};
+use dsa_operations::Operation;
 use dsa_plan::{STAGED_LEN, Settings};
+use dsa_tracker::Tracked;
 use std::alloc::{AllocError, Global};
 
 /// The records of an operation, one for each of its pieces.
@@ -34,13 +36,13 @@ impl Row {
 /// The rows of the operations, by their addresses.
 pub(crate) fn rows_of(
     alloc: Global,
-    operations: &[Descriptor],
+    operations: &[Operation],
     settings: &Settings,
 ) -> Result<Vec<Row>, AllocError> {
     let mut rows = Vec::with_capacity(alloc, operations.len())?;
     for (operation, d) in operations.iter().enumerate() {
         rows.push(Row {
-            first: d.record_at,
+            first: d.completion_record().first,
             records: count_of(d, settings) as u64,
             operation,
         })?;
@@ -72,7 +74,7 @@ fn shared_in(alloc: Global, rows: &[Row]) -> Result<Vec<Shared>, AllocError> {
 /// What lies in memory: the rows and the data of the operations, and the staging area, by their addresses.
 fn taken_by(
     alloc: Global,
-    operations: &[Descriptor],
+    operations: &[Operation],
     rows: &[Row],
     settings: &Settings,
 ) -> Result<Vec<Span>, AllocError> {
@@ -83,8 +85,8 @@ fn taken_by(
         pieces = pieces.saturating_add(row.records);
     }
     for d in operations {
-        taken.extend_from_slice(&d.op.sources(d.size))?;
-        taken.extend_from_slice(&d.op.targets(d.size))?;
+        taken.extend_from_slice(&d.sources())?;
+        taken.extend_from_slice(&d.targets())?;
     }
     taken.push(Span {
         first: settings.staging(),
@@ -135,7 +137,7 @@ fn line_of(alloc: Global, shared: &Shared, free: Option<u64>) -> Result<String, 
 /// operation has records of its own. The addresses that are named are free, also if all of them are used.
 pub(crate) fn warnings_of(
     alloc: Global,
-    operations: &[Descriptor],
+    operations: &[Operation],
     settings: &Settings,
 ) -> Result<Option<String>, AllocError> {
     let rows = rows_of(alloc, operations, settings)?;

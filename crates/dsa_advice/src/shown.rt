@@ -7,11 +7,11 @@ ghost use Rattle.dsa_advice.specs.Shown.{AnswersSubject, CanBeShown, SpellsPlan,
 
 use crate::answer::Answer;
 use crate::form::Form;
-use dsa_descriptor::Descriptor;
 use dsa_explain::{
     Buffer, Detail, Labels, MOST_ROWS, Origin, PieceRange, View, WaitsFault, draw, explain_legal,
     explanation_line, explanation_text, group_waits, waits_text,
 };
+use dsa_operations::Operation;
 use dsa_plan::{Group, Plan, Settings};
 use dsa_sentences::TextCause;
 use dsa_tracker::TrackFault;
@@ -22,7 +22,7 @@ use std::alloc::{AllocError, Global};
 #[derive(Clone, Copy)]
 pub(crate) struct Subject<'a> {
     pub(crate) plan: &'a Plan,
-    pub(crate) pieces: &'a [Descriptor],
+    pub(crate) pieces: &'a [Operation],
     pub(crate) barriers: &'a [bool],
     pub(crate) labels: Labels<'a>,
     pub(crate) buffers: &'a [Buffer],
@@ -30,7 +30,7 @@ pub(crate) struct Subject<'a> {
 }
 
 /// A plan of pieces without barriers, whose operations are not known.
-pub(crate) fn plain<'a>(plan: &'a Plan, pieces: &'a [Descriptor], least: Option<u64>) -> Subject<'a>
+pub(crate) fn plain<'a>(plan: &'a Plan, pieces: &'a [Operation], least: Option<u64>) -> Subject<'a>
     ensures plan { result.plan.now ≡ plan.now }
     ensures pieces { result.pieces.now ≡ pieces.now }
     ensures barriers { result.barriers.now ≡ [] }

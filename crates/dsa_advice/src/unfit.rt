@@ -1,8 +1,9 @@
 //! Warnings about completion records that can't be those of their pieces.
 
 use crate::notes::Notes;
-use dsa_descriptor::{Descriptor, Op, Span};
-use dsa_ranges::touched;
+use dsa_descriptor::{Op, Span};
+use dsa_operations::Operation;
+use dsa_ranges::{Piece, Touching};
 use std::alloc::{AllocError, Global};
 
 /// The bits of a status without the one that says of a page fault that it was a write (`linux/idxd.h`).
@@ -27,31 +28,39 @@ enum Unfit {
 }
 
 /// Whether the piece compares.
-fn compares(op: &Op) -> bool {
-    match *op {
-        Op::Compare { .. } | Op::ComparePattern { .. } => true,
-        Op::Move { .. } | Op::Fill { .. } | Op::ApplyDelta { .. } | Op::Dualcast { .. } => false,
+fn compares(piece: &Operation) -> bool {
+    match piece {
+        Operation::Descriptor(descriptor) => match descriptor.op {
+            Op::Compare { .. } | Op::ComparePattern { .. } => true,
+            Op::Move { .. } | Op::Fill { .. } | Op::ApplyDelta { .. } | Op::Dualcast { .. } => {
+                false
+            }
+        },
+        Operation::Checksum(_) => false,
     }
 }
 
-/// Whether the piece applies a delta.
-fn applies_delta(op: &Op) -> bool {
-    match *op {
-        Op::ApplyDelta { .. } => true,
-        Op::Move { .. }
-        | Op::Fill { .. }
-        | Op::Compare { .. }
-        | Op::ComparePattern { .. }
-        | Op::Dualcast { .. } => false,
+/// The size of the delta record of a piece that applies one.
+fn delta_size(piece: &Operation) -> Option<u32> {
+    match piece {
+        Operation::Descriptor(descriptor) => match descriptor.op {
+            Op::ApplyDelta { record_size, .. } => Some(record_size),
+            Op::Move { .. }
+            | Op::Fill { .. }
+            | Op::Compare { .. }
+            | Op::ComparePattern { .. }
+            | Op::Dualcast { .. } => None,
+        },
+        Operation::Checksum(_) => None,
     }
 }
 
 /// The operations of which alone the record has this status, unless the piece is one of them.
-fn other_operations(op: &Op, status: u8) -> Option<&'static str> {
+fn other_operations(piece: &Operation, status: u8) -> Option<&'static str> {
     match status {
-        2 if !compares(op) => Some("compares"),
+        2 if !compares(piece) => Some("compares"),
         5 | 6 => Some("batches"),
-        7 | 8 if !applies_delta(op) => Some("deltas"),
+        7 | 8 if delta_size(piece).is_none() => Some("deltas"),
         9 => Some("operations on integrity fields"),
         0..=u8::MAX => None,
     }
@@ -64,14 +73,11 @@ fn are_in_page(spans: &[Span], address: u64) -> bool {
 }
 
 /// The most bytes of a piece that a record can count.
-fn most_bytes(piece: &Descriptor) -> u32 {
-    match piece.op {
-        Op::ApplyDelta { record_size, .. } => piece.size.max(record_size),
-        Op::Move { .. }
-        | Op::Fill { .. }
-        | Op::Compare { .. }
-        | Op::ComparePattern { .. }
-        | Op::Dualcast { .. } => piece.size,
+fn most_bytes(piece: &Operation) -> u32 {
+    let size = piece.transfer_size();
+    match delta_size(piece) {
+        Some(record_size) => size.max(record_size),
+        None => size,
     }
 }
 
@@ -88,9 +94,9 @@ fn bytes_completed(record: &[u8; 32]) -> u32 {
 }
 
 /// Why a record with a page fault can't be the one of the piece.
-fn unfit_fault(piece: &Descriptor, record: &[u8; 32]) -> Option<Unfit> {
+fn unfit_fault(piece: &Operation, record: &[u8; 32]) -> Option<Unfit> {
     let (done, address) = (bytes_completed(record), fault_address(record));
-    let ranges = touched(piece);
+    let ranges = piece.touched_spans();
     let is_in = are_in_page(&ranges.reads, address) || are_in_page(&ranges.writes, address);
     if address != 0 && !is_in {
         return Some(Unfit::FarFault(address));
@@ -102,21 +108,21 @@ fn unfit_fault(piece: &Descriptor, record: &[u8; 32]) -> Option<Unfit> {
 }
 
 /// Why a record can't be the one of the piece, if it can't.
-fn unfit_in(piece: &Descriptor, record: &[u8; 32]) -> Option<Unfit> {
+fn unfit_in(piece: &Operation, record: &[u8; 32]) -> Option<Unfit> {
     let status = record[0];
     match status {
         0 if record.iter().any(|byte| *byte != 0) => Some(Unfit::NotCleared),
         3 | 4 | 0x83 | 0x84 => unfit_fault(piece, record),
         0x0a..=0x0f | 0x23..=0x82 | 0x8a..=0x8f | 0xa3..=0xff => Some(Unfit::NoStatus(status)),
         0..=9 | 0x10..=0x22 | 0x85..=0x89 | 0x90..=0xa2 => {
-            let whose = other_operations(&piece.op, status & STATUS)?;
+            let whose = other_operations(piece, status & STATUS)?;
             Some(Unfit::OtherOperation(status & STATUS, whose))
         }
     }
 }
 
 /// What is said of a record that can't be the one of its piece.
-fn words_of(alloc: Global, piece: &Descriptor, unfit: Unfit) -> Result<String, AllocError> {
+fn words_of(alloc: Global, piece: &Operation, unfit: Unfit) -> Result<String, AllocError> {
     match unfit {
         Unfit::NotCleared => String::from_str(alloc, "its record has status 0 and other bytes"),
         Unfit::NoStatus(status) => {
@@ -138,7 +144,7 @@ fn words_of(alloc: Global, piece: &Descriptor, unfit: Unfit) -> Result<String, A
 /// A line for each piece whose record can't be its own, up to 20, and how many more there are.
 pub(crate) fn unfit_notes(
     alloc: Global,
-    pieces: &[Descriptor],
+    pieces: &[Operation],
     records: &[[u8; 32]],
 ) -> Result<Option<String>, AllocError> {
     let mut notes = Notes::new(alloc);

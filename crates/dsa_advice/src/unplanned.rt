@@ -8,11 +8,13 @@ use crate::answer::Answer;
 use crate::notes::push_span;
 use crate::origins::count_of;
 use dsa_calls::PlanFault;
-use dsa_descriptor::{Descriptor, MOST_PIECES, RECORD_LEN};
+use dsa_descriptor::{MOST_PIECES, RECORD_LEN};
 use dsa_lines::{OperationLine, line_of_operation};
+use dsa_operations::Operation;
 use dsa_plan::{STAGED_LEN, Settings};
-use dsa_ranges::{Span, meets};
+use dsa_ranges::{Piece, Span, meets};
 use dsa_splitter::SplitFault;
+use dsa_tracker::Tracked;
 use std::alloc::{AllocError, Global};
 
 /// Where operations come from.
@@ -29,7 +31,7 @@ pub enum Source<'a> {
 /// The operations that were to be planned, and their settings.
 #[derive(Clone, Copy)]
 struct Given<'a> {
-    operations: &'a [Descriptor],
+    operations: &'a [Operation],
     settings: &'a Settings,
     source: Source<'a>,
 }
@@ -114,21 +116,21 @@ fn shared(area: Span, spans: &[Span], what: &'static str) -> Option<Meeting> {
 }
 
 /// An address at which the operation's data lies in a range.
-fn data_meeting(d: &Descriptor, area: Span) -> Option<Meeting> {
-    if let Some(meeting) = shared(area, &d.op.sources(d.size), "source") {
+fn data_meeting(d: &Operation, area: Span) -> Option<Meeting> {
+    if let Some(meeting) = shared(area, &d.sources(), "source") {
         return Some(meeting);
     }
-    shared(area, &d.op.targets(d.size), "destination")
+    shared(area, &d.targets(), "destination")
 }
 
 /// An address at which the operation's data, or the records of so many pieces of it, lie in a range.
-fn operation_meeting(d: &Descriptor, count: usize, area: Span) -> Option<Meeting> {
+fn operation_meeting(d: &Operation, count: usize, area: Span) -> Option<Meeting> {
     if let Some(meeting) = data_meeting(d, area) {
         return Some(meeting);
     }
     shared(
         area,
-        &[row(d.record_at, RECORD_LEN, count)],
+        &[row(d.completion_record().first, RECORD_LEN, count)],
         "completion record",
     )
 }
@@ -138,7 +140,7 @@ fn push_staging(
     alloc: Global,
     text: &mut String,
     given: Given<'_>,
-    d: &Descriptor,
+    d: &Operation,
 ) -> Result<(), AllocError> {
     let option = given.source.staging();
     let area = row(given.settings.staging(), STAGED_LEN, piece_total(given));
@@ -159,10 +161,10 @@ fn push_row(
     alloc: Global,
     text: &mut String,
     given: Given<'_>,
-    d: &Descriptor,
+    d: &Operation,
 ) -> Result<(), AllocError> {
     let (count, option) = (count_of(d, given.settings), given.source.transfer());
-    let records = row(d.record_at, RECORD_LEN, count);
+    let records = row(d.completion_record().first, RECORD_LEN, count);
     text.push_str(&format!(in alloc; "the records of its {count} pieces, ")?)?;
     push_span(alloc, text, records)?;
     text.push_str(", meet its own ")?;
@@ -177,10 +179,10 @@ fn push_cause(
     alloc: Global,
     text: &mut String,
     given: Given<'_>,
-    d: &Descriptor,
+    d: &Operation,
     cause: SplitFault,
 ) -> Result<(), AllocError> {
-    let (size, record) = (d.size, d.record_at);
+    let (size, record) = (d.transfer_size(), d.completion_record().first);
     let (greatest, option) = (given.settings.greatest_transfer(), given.source.transfer());
     match cause {
         SplitFault::DeltaTooLong(_) => text.push_str(&format!(in alloc;
@@ -201,15 +203,35 @@ fn push_cause(
     }
 }
 
+/// Which operation it is, and its line in a text.
+fn place_text(alloc: Global, source: Source<'_>, index: usize) -> Result<String, AllocError> {
+    match source {
+        Source::Text(_, lines) => {
+            let line = line_of_operation(lines, index);
+            format!(in alloc; "line {line}, operation {index}: ")
+        }
+        Source::List | Source::Job => format!(in alloc; "operation {index}: "),
+    }
+}
+
+/// The message about an operation that is too long, in a list with a checksum.
+fn too_long(alloc: Global, given: Given<'_>, index: usize) -> Result<String, AllocError> {
+    let (greatest, option) = (given.settings.greatest_transfer(), given.source.transfer());
+    let size = given
+        .operations
+        .get(index)
+        .map_or(0, |operation| operation.transfer_size());
+    let mut text = place_text(alloc, given.source, index)?;
+    text.push_str(&format!(in alloc;
+        "{size} bytes are above the greatest transfer, {greatest}, and no operation of a list with a checksum is split: raise {option}"
+    )?)?;
+    Ok(text)
+}
+
 /// The message about operations that can't be split.
 fn words_of(alloc: Global, given: Given<'_>, cause: SplitFault) -> Result<String, AllocError> {
-    let mut text = String::new(alloc);
     let index = operation_at_fault(given, cause);
-    if let Source::Text(_, lines) = given.source {
-        let line = line_of_operation(lines, index);
-        text.push_str(&format!(in alloc; "line {line}, ")?)?;
-    }
-    text.push_str(&format!(in alloc; "operation {index}: ")?)?;
+    let mut text = place_text(alloc, given.source, index)?;
     if let Some(d) = given.operations.get(index) {
         push_cause(alloc, &mut text, given, d, cause)?;
     }
@@ -219,21 +241,24 @@ fn words_of(alloc: Global, given: Given<'_>, cause: SplitFault) -> Result<String
 /// The refusal of operations that can't be planned.
 pub fn refuse_unplanned(
     alloc: Global,
-    operations: &[Descriptor],
+    operations: &[Operation],
     settings: &Settings,
     source: Source<'_>,
     fault: PlanFault,
 ) -> Result<Answer, AllocError>
     ensures { IfOk result (IsRefusal fault) }
 {
-    let PlanFault::Split(cause) = fault else {
-        return Answer::fault(alloc, fault);
-    };
     let given = Given {
         operations,
         settings,
         source,
     };
-    let words = words_of(alloc, given, cause)?;
+    let words = if let PlanFault::Split(cause) = fault {
+        words_of(alloc, given, cause)?
+    } else if let PlanFault::OverTransfer(index) = fault {
+        too_long(alloc, given, index)?
+    } else {
+        return Answer::fault(alloc, fault);
+    };
     Answer::fault_with(alloc, fault, &words)
 }

@@ -163,18 +163,20 @@ fn hint_of_bytes(word: &[u8]) -> Option<&'static str> {
 }
 
 /// The words that a line begins with.
-const WORDS: [&[u8]; 7] = [
+const WORDS: [&[u8]; 9] = [
     b"move",
     b"fill",
     b"compare",
     b"delta",
     b"dualcast",
+    b"crc",
+    b"copy_crc",
     b"barrier",
     b"batch",
 ];
 
 /// Other words for operations, and what helps.
-const OTHERS: [(&[u8], &str); 16] = [
+const OTHERS: [(&[u8], &str); 17] = [
     (b"memcpy", COPIES),
     (b"memmove", COPIES),
     (b"copy", COPIES),
@@ -187,8 +189,9 @@ const OTHERS: [(&[u8], &str); 16] = [
     (b"nop", NO_LIST),
     (b"noop", NO_LIST),
     (b"drain", NO_LIST),
-    (b"crc", NO_LIST),
-    (b"copy_crc", NO_LIST),
+    (b"crc32", CHECKSUMS),
+    (b"crc32c", CHECKSUMS),
+    (b"checksum", CHECKSUMS),
     (b"dif", NO_LIST),
     (b"flush", NO_LIST),
 ];
@@ -201,7 +204,9 @@ const COMPARES: &str = "`compare` compares bytes";
 
 const WAITS: &str = "a line `barrier` makes what comes after it wait";
 
-const NO_LIST: &str = "a list has moves, fills, compares, deltas and dualcasts alone";
+const CHECKSUMS: &str = "`crc` makes a checksum, `copy_crc` copies the bytes, too";
+
+const NO_LIST: &str = "a list has moves, fills, compares, deltas, dualcasts and checksums alone";
 
 /// What helps for a word that is one of others, in letters of either case.
 fn hint_of_other(word: &[u8]) -> Option<&'static str> {
@@ -305,6 +310,9 @@ pub(crate) fn hint_of(word: &[u8], expected: Expected) -> Option<&'static str> {
         Expected::Comma | Expected::CommaOrEnd => hint_of_comma(word),
         Expected::Expect => Some("`expect 0` if they should be equal, else `expect 1`"),
         Expected::Record => Some("`record ADDRESS`: of 32 bytes, at a multiple of 32"),
+        Expected::Seed => Some(
+            "`seed 0` begins a checksum, `seed at ADDRESS` goes on from four bytes",
+        ),
         Expected::Flags => hint_of_flags(word),
         Expected::Pasid
         | Expected::Handle

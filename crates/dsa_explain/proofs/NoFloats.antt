@@ -5,8 +5,8 @@ use Rattle.serde_json.specs.Data.{Data, string}
 use Rattle.serde_json.specs.View.{items_of}
 use Rattle.serde_json.specs.Written.{has_float, items_have_float}
 use Rattle.dsa_tokens.specs.Spelled.{array_of, object_of, whole}
-use Rattle.dsa_descriptor.specs.declared.descriptor.Descriptor.{Descriptor}
-use Rattle.dsa_ranges.specs.Pieces.{writes_of}
+use Rattle.dsa_operations.specs.declared.operation.Operation.{Operation}
+use Rattle.dsa_operations.specs.Operations.{writes_of}
 use Rattle.dsa_reasons.specs.declared.fences.Fence.{Fence}
 use Rattle.dsa_reasons.specs.declared.reason.Reason.{Reason}
 use Rattle.dsa_reasons.specs.Sentences.{record_of}
@@ -23,18 +23,18 @@ optional : (n : Option ℕ) → has_float (optional_value n) ≡ false
 optional None = refl
 optional (Some n) = refl
 
-reason : (pieces : List Descriptor) (r : Reason) → has_float (reason_value pieces r) ≡ false
+reason : (pieces : List Operation) (r : Reason) → has_float (reason_value pieces r) ≡ false
 reason pieces r = rw (optional (record_of writes_of pieces r)) refl
 
-fence_with : (barrier : Bool) (pieces : List Descriptor) (f : Fence)
+fence_with : (barrier : Bool) (pieces : List Operation) (f : Fence)
     → has_float (object_of (barrier_members barrier ++ (codes "before", whole f.piece) ∷ (codes "conflicts", array_of (map (reason_value pieces) f.named.items)) ∷ [])) ≡ false
 fence_with true pieces f = rw (items (reason_value pieces) f.named.items (reason pieces)) refl
 fence_with false pieces f = rw (items (reason_value pieces) f.named.items (reason pieces)) refl
 
-fence : (pieces : List Descriptor) (f : Fence) → has_float (fence_value pieces f) ≡ false
+fence : (pieces : List Operation) (f : Fence) → has_float (fence_value pieces f) ≡ false
 fence pieces f = fence_with f.barrier pieces f
 
-pub explained : (e : Explanation) (pieces : List Descriptor) (labels : Labelling) (least : Option ℕ) → has_float (explanation_value e pieces labels least) ≡ false
+pub explained : (e : Explanation) (pieces : List Operation) (labels : Labelling) (least : Option ℕ) → has_float (explanation_value e pieces labels least) ≡ false
 explained e pieces labels least =
     rw (
       items (fence_value pieces) e.fences.items (fence pieces),

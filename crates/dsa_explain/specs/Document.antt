@@ -3,12 +3,12 @@ use Rattle.std.specs.Prelude.{ℕ, Bool, true, List, [], ◌∷◌, ◌++◌, co
 use Rattle.serde_json.specs.Data.{Data, boolean, null, string}
 use Rattle.serde_json.specs.Written.{compact_text}
 use Rattle.dsa_tokens.specs.Spelled.{whole, array_of, object_of}
-use Rattle.dsa_descriptor.specs.declared.descriptor.Descriptor.{Descriptor}
-use Rattle.dsa_descriptor.specs.Descriptors.{fields}
+use Rattle.dsa_operations.specs.declared.operation.Operation.{Operation}
+use Rattle.dsa_operations.specs.OperationFields.{operation_fields}
 use Rattle.dsa_lines.specs.Numbers.{hex}
 use Rattle.dsa_lines.specs.Text.{line_text}
 use Rattle.dsa_plan.specs.declared.costs.GroupCost.{GroupCost}
-use Rattle.dsa_ranges.specs.Pieces.{writes_of}
+use Rattle.dsa_operations.specs.Operations.{writes_of}
 use Rattle.dsa_reasons.specs.declared.fences.Fence.{Fence}
 use Rattle.dsa_reasons.specs.declared.reason.Reason.{Reason}
 use Rattle.dsa_reasons.specs.Sentences.{kind_words, record_of}
@@ -27,7 +27,7 @@ group_value group =
     object_of ((codes "cost", whole group.cost) ∷ (codes "fences", whole group.fences) ∷ (codes "size", whole group.size) ∷ [])
 
 -- a conflict: an address of it, its two pieces, its kind, and the piece whose completion record has the address
-abbrev pub reason_value : List Descriptor → Reason → Data
+abbrev pub reason_value : List Operation → Reason → Data
 reason_value pieces r =
     object_of (
     (codes "address", string (hex r.hazard.address))
@@ -42,7 +42,7 @@ abbrev pub barrier_members : Bool → List (List ℕ × Data)
 barrier_members barrier = if barrier then (codes "barrier", boolean true) ∷ [] else []
 
 -- a fence: whether a barrier needs it, the piece that it is before, and the conflicts that only this fence separates
-abbrev pub fence_value : List Descriptor → Fence → Data
+abbrev pub fence_value : List Operation → Fence → Data
 fence_value pieces fence =
     object_of (
     barrier_members fence.barrier
@@ -51,8 +51,8 @@ fence_value pieces fence =
     ∷ [])
 
 -- a piece: its canonical line
-abbrev pub piece_value : Descriptor → Data
-piece_value d = string (line_text (fields d))
+abbrev pub piece_value : Operation → Data
+piece_value d = string (line_text (operation_fields d))
 
 -- the origin of a piece: its operation, which of the operation's pieces it is, from 1 on, and how many there are
 abbrev pub origin_value : Origin → Data
@@ -65,7 +65,7 @@ origin_value origin =
 
 -- an explanation, with the origins of its pieces, the names of their operations, and the cost of a least plan if it is
 -- known
-abbrev pub explanation_value : Explanation → List Descriptor → Labelling → Option ℕ → Data
+abbrev pub explanation_value : Explanation → List Operation → Labelling → Option ℕ → Data
 explanation_value e pieces labels least =
     object_of (
     (codes "cost", whole e.costs.cost)
@@ -79,5 +79,5 @@ explanation_value e pieces labels least =
     ∷ [])
 
 -- its compact text, as a line
-abbrev pub explanation_line : Explanation → List Descriptor → Labelling → Option ℕ → List ℕ
+abbrev pub explanation_line : Explanation → List Operation → Labelling → Option ℕ → List ℕ
 explanation_line e pieces labels least = compact_text (explanation_value e pieces labels least) ++ codes "\n"

@@ -1,6 +1,7 @@
 -- Runs: pieces of one operation that share a line of an explanation (this project's choice).
 use Rattle.std.specs.Prelude.{ℕ, suc, ◌+◌, ◌-◌, ◌==◌, ◌&&◌, not, nat_le, Bool, true, false, List, [], ◌∷◌, map, slice_get, string_bytes, Option, Some, None, if◌then◌else◌}
-use Rattle.dsa_descriptor.specs.declared.descriptor.Descriptor.{Descriptor}
+use Rattle.dsa_operations.specs.declared.operation.Operation.{Operation}
+use Rattle.dsa_operations.specs.Operations.{size_of}
 use Rattle.dsa_plan.specs.Settings.{Limits}
 use Rattle.dsa_plan.specs.declared.costs.GroupCost.{GroupCost}
 use Rattle.dsa_explain.specs.declared.cells.Cell.{Cell}
@@ -24,7 +25,7 @@ pub record Listed : Type 0 where
   pub limits : Limits
   pub detail : Detail
   pub groups : List GroupCost
-  pub pieces : List Descriptor
+  pub pieces : List Operation
   pub labels : Labelling
 
 -- what a listing says
@@ -45,10 +46,10 @@ is_so_far_after count (Some origin) None = false
 is_so_far_after count (Some origin) (Some later) = later.operation == origin.operation && later.piece == origin.piece + count
 
 -- both pieces have one size
-abbrev pub are_as_large : Option Descriptor → Option Descriptor → Bool
+abbrev pub are_as_large : Option Operation → Option Operation → Bool
 are_as_large None later = false
 are_as_large (Some d) None = false
-are_as_large (Some d) (Some later) = later.size == d.size
+are_as_large (Some d) (Some later) = size_of later == size_of d
 
 -- the piece at this index and the one so many before it are of the same operation, as many of its pieces apart, and of the
 -- same size

@@ -2,11 +2,11 @@
 -- none ends meanwhile; and what that saves. (That explanations say this, and their words, is this project's choice.)
 use Rattle.std.specs.Prelude.{◌≡◌, ◌==◌, ℕ, zero, suc, ◌+◌, ◌-◌, Bool, List, [], ◌∷◌, ◌++◌, Some, None, codes, decimal, length, max, min, replicate, slice_get, slice_index, slice_index_or, if◌then◌else◌}
 use Rattle.std.specs.Int.{bit_at}
-use Rattle.dsa_descriptor.specs.declared.descriptor.Descriptor.{Descriptor}
+use Rattle.dsa_operations.specs.declared.operation.Operation.{Operation}
 use Rattle.dsa_plan.specs.Plan.{Plan}
-use Rattle.dsa_ranges.specs.Pieces.{reads_of, writes_of}
+use Rattle.dsa_operations.specs.Operations.{reads_of, writes_of}
 use Rattle.dsa_tracker.specs.declared.slots.Slots.{Slots}
-use Rattle.dsa_tracker.specs.Calls.{owner_of, owner_with}
+use Rattle.dsa_tracker.specs.Calls.{operation_owner, owner_with}
 use Rattle.dsa_tracker.specs.Groups.{IsGroupsFault, SubmitsInTurn, free_count, group_reads, group_writes}
 use Rattle.dsa_tracker.specs.Table.{IsExactly, Table, WaitsFor}
 use Rattle.dsa_explain.specs.declared.waits.WaitsFault.{WaitsFault}
@@ -23,19 +23,19 @@ pub record AreSets (tracked : Table) (slots : List ℕ) (sets : List Slots) : Ty
   pub each : (k : ℕ) (set : Slots) → slice_get sets k ≡ Some set → IsExactly set (λ s. WaitsFor tracked.slots s (slice_index slots k))
 
 -- the groups were taken with these slots, and the sets are what each waits for
-pub record AreWaits (staging : ℕ) (plan : Plan) (pieces : List Descriptor) (slots : List ℕ) (sets : List Slots) : Type 0 where
+pub record AreWaits (staging : ℕ) (plan : Plan) (pieces : List Operation) (slots : List ℕ) (sets : List Slots) : Type 0 where
   pub tracked : Table
   pub taken :
       SubmitsInTurn free_table (group_reads reads_of plan pieces) (group_writes writes_of staging plan pieces) (record { 0 = 0 })
-      (owner_with owner_of None pieces) slots (length plan) tracked
+      (owner_with operation_owner None pieces) slots (length plan) tracked
   pub count : length slots ≡ length plan
   pub told : AreSets tracked slots sets
 
 -- why there are none: such a tracker refuses the groups, or an allocation failed
-abbrev pub RefusesWaits : ℕ → Plan → List Descriptor → WaitsFault → Type 0
+abbrev pub RefusesWaits : ℕ → Plan → List Operation → WaitsFault → Type 0
 RefusesWaits staging plan pieces Memory = Unit {0}
 RefusesWaits staging plan pieces (Track fault) =
-    IsGroupsFault owner_of free_table.room (min (free_count free_table.slots) (length plan)) (owner_with owner_of None pieces) pieces plan staging fault
+    IsGroupsFault operation_owner free_table.room (min (free_count free_table.slots) (length plan)) (owner_with operation_owner None pieces) pieces plan staging fault
 
 -- ---- the longest chain of groups, each of which waits for the one before
 

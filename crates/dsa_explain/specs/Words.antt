@@ -1,13 +1,14 @@
 -- The words of an explanation (this project's choice).
 use Rattle.std.specs.Prelude.{ℕ, suc, ◌+◌, ◌-◌, ◌==◌, nat_le, nat_lt, Bool, false, List, [], ◌∷◌, ◌++◌, codes, decimal, drop, length, slice_get, slice_index_or, Option, Some, None, if◌then◌else◌}
 use Rattle.std.specs.List.{flat_map}
-use Rattle.dsa_descriptor.specs.declared.descriptor.Descriptor.{Descriptor}
-use Rattle.dsa_descriptor.specs.Descriptors.{fields}
+use Rattle.dsa_operations.specs.declared.operation.Operation.{Operation}
+use Rattle.dsa_operations.specs.declared.operation.Operation.TheVariants as operation
+use Rattle.dsa_operations.specs.OperationFields.{operation_fields}
 use Rattle.dsa_lines.specs.Text.{line_text}
 use Rattle.dsa_plan.specs.Settings.{Limits}
 use Rattle.dsa_plan.specs.declared.costs.Costs.{Costs}
 use Rattle.dsa_plan.specs.declared.costs.GroupCost.{GroupCost}
-use Rattle.dsa_ranges.specs.Pieces.{writes_of}
+use Rattle.dsa_operations.specs.Operations.{size_of, writes_of}
 use Rattle.dsa_reasons.specs.declared.fences.Detail.{Detail}
 use Rattle.dsa_reasons.specs.declared.fences.Fence.{Fence}
 use Rattle.dsa_reasons.specs.declared.reason.Reason.{Reason}
@@ -69,7 +70,7 @@ groups_words greatest first last group =
     ++ (decimal last ++ (codes ": " ++ (decimal (last + 1 - first) ++ (alike_words greatest group ++ codes " each"))))))
 
 -- the line of each further conflict that is named
-abbrev pub further_lines : List Descriptor → List Reason → List ℕ
+abbrev pub further_lines : List Operation → List Reason → List ℕ
 further_lines pieces reasons = flat_map (λ r. codes "     and " ++ (reason_words writes_of pieces r ++ codes "\n")) reasons
 
 -- which piece of its operation this is, if that has several
@@ -107,12 +108,12 @@ name_of names None = []
 name_of names (Some origin) = slice_index_or names origin.operation []
 
 -- a piece: its canonical line, its operation, and the name of that
-abbrev pub piece_words : Descriptor → Option Origin → List ℕ → List ℕ
-piece_words d origin name = line_text (fields d) ++ (origin_words origin ++ name_words name)
+abbrev pub piece_words : Operation → Option Origin → List ℕ → List ℕ
+piece_words d origin name = line_text (operation_fields d) ++ (origin_words origin ++ name_words name)
 
 -- a run of a piece and so many more: what the first one does, their operation, and the name of that
-abbrev pub run_words : ℕ → Bool → Descriptor → Option Origin → List ℕ → List ℕ
-run_words more is_down d origin name = line_text (fields d) ++ (origins_words more d.size is_down origin ++ name_words name)
+abbrev pub run_words : ℕ → Bool → Operation → Option Origin → List ℕ → List ℕ
+run_words more is_down d origin name = line_text (operation_fields d) ++ (origins_words more (size_of d) is_down origin ++ name_words name)
 
 -- what is saved, or how much less lone submissions cost
 abbrev pub saved_words : ℕ → ℕ → List ℕ
@@ -141,7 +142,7 @@ group_line greatest groups first last =
     if first.column == 0 then line_of_groups greatest first.row last (slice_get groups first.row) else []
 
 -- the lines of the first of these fences, before a fenced piece
-abbrev pub line_of_fence : ℕ → List Descriptor → Option Fence → List ℕ
+abbrev pub line_of_fence : ℕ → List Operation → Option Fence → List ℕ
 line_of_fence price pieces None = []
 line_of_fence price pieces (Some fence) =
     codes "  -- fence, cost "
@@ -149,7 +150,7 @@ line_of_fence price pieces (Some fence) =
     ++ (codes ": " ++ (fence_words writes_of pieces fence ++ (codes "\n" ++ further_lines pieces (drop 1 fence.named.items)))))
 
 -- the lines of the fence before this piece, if there is one
-abbrev pub fence_line : ℕ → List Descriptor → List Fence → Cell → List ℕ
+abbrev pub fence_line : ℕ → List Operation → List Fence → Cell → List ℕ
 fence_line price pieces fences cell =
     if cell.fenced then line_of_fence price pieces (slice_get fences 0) else []
 
@@ -158,27 +159,32 @@ abbrev pub fences_left : List Fence → Cell → List Fence
 fences_left fences cell = if cell.fenced then drop 1 fences else fences
 
 -- the line of a piece that shares its line with no other
-abbrev pub piece_line : ℕ → Descriptor → Option Origin → List ℕ → List ℕ
+abbrev pub piece_line : ℕ → Operation → Option Origin → List ℕ → List ℕ
 piece_line index d origin name = codes "  " ++ (decimal index ++ (codes ": " ++ (piece_words d origin name ++ codes "\n")))
 
 -- the line of a run
-abbrev pub run_line : ℕ → ℕ → Bool → Descriptor → Option Origin → List ℕ → List ℕ
+abbrev pub run_line : ℕ → ℕ → Bool → Operation → Option Origin → List ℕ → List ℕ
 run_line index more is_down d origin name =
     codes "  "
     ++ (decimal index
     ++ (codes " to " ++ (decimal (index + more) ++ (codes ": " ++ (run_words more is_down d origin name ++ codes "\n")))))
 
 -- the line of the piece of this index and so many more
-abbrev pub pieces_line : ℕ → ℕ → Bool → Option Descriptor → Option Origin → List ℕ → List ℕ
+abbrev pub pieces_line : ℕ → ℕ → Bool → Option Operation → Option Origin → List ℕ → List ℕ
 pieces_line index more is_down None origin name = []
 pieces_line index more is_down (Some d) origin name =
     if more == 0 then piece_line index d origin name else run_line index more is_down d origin name
 
+-- the address of an operation's completion record
+abbrev pub record_at : Operation → ℕ
+record_at (operation.Descriptor d) = d.record_at
+record_at (operation.Checksum c) = c.record_at
+
 -- the pieces run down, as those of an operation whose regions overlap may: the record of the next one is lower
-abbrev pub is_lower : Option Descriptor → Option Descriptor → Bool
+abbrev pub is_lower : Option Operation → Option Operation → Bool
 is_lower None next = false
 is_lower (Some d) None = false
-is_lower (Some d) (Some next) = nat_lt next.record_at d.record_at
+is_lower (Some d) (Some next) = nat_lt (record_at next) (record_at d)
 
 -- the line of a run, which begins with the piece of this index
 abbrev pub line_of_run : Listed → ℕ → ℕ → List ℕ
@@ -213,7 +219,7 @@ cell_lines x index fences (cell ∷ cells) =
     lines_at x index fences cell cells ++ cell_lines x (suc index) (fences_left fences cell) cells
 
 -- an explanation in words, under settings: the lines of its pieces, and one of its costs
-abbrev pub explanation_words : Limits → Detail → Explanation → List Descriptor → Labelling → List ℕ
+abbrev pub explanation_words : Limits → Detail → Explanation → List Operation → Labelling → List ℕ
 explanation_words s detail e pieces labels =
     cell_lines (record { limits = s; detail = detail; groups = e.costs.groups.items; pieces = pieces; labels = labels }) 0 e.fences.items e.cells.items
     ++ (cost_words e.costs (length pieces) ++ codes "\n")

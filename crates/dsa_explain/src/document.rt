@@ -7,13 +7,13 @@ ghost use Rattle.serde_json.specs.Written.{has_float};
 ghost use Rattle.dsa_tokens.specs.Spelled.{array_of};
 ghost use Rattle.dsa_explain.specs.Document.{explanation_line, explanation_value, fence_value, group_value, optional_value, origin_value, piece_value, reason_value};
 ghost use Rattle.dsa_explain.specs.Runs.{labelling};
-ghost use Rattle.dsa_ranges.specs.Pieces.{writes_of};
+ghost use Rattle.dsa_operations.specs.Operations.{writes_of};
 ghost use Rattle.dsa_reasons.specs.Sentences.{record_of};
 
 use crate::explanation::Explanation;
 use crate::labels::{Labels, Origin};
-use dsa_descriptor::Descriptor;
 use dsa_lines::line_of;
+use dsa_operations::Operation;
 use dsa_plan::GroupCost;
 use dsa_reasons::{Fence, Reason, kind_text, record_of};
 use serde_json::{Value, json};
@@ -49,14 +49,14 @@ fn groups_json(alloc: Global, groups: &[GroupCost]) -> Result<Value, AllocError>
 }
 
 /// The piece of a conflict whose completion record has the address, as JSON has it.
-fn record_json(pieces: &[Descriptor], reason: &Reason) -> Value
+fn record_json(pieces: &[Operation], reason: &Reason) -> Value
     ensures { view result ≡ optional_value (record_of writes_of pieces.now reason.now) }
 {
     optional_json(record_of(pieces, reason).map(|piece| piece as u64))
 }
 
 /// The object of a conflict.
-fn reason_json(alloc: Global, pieces: &[Descriptor], reason: &Reason) -> Result<Value, AllocError>
+fn reason_json(alloc: Global, pieces: &[Operation], reason: &Reason) -> Result<Value, AllocError>
     ensures { IfOk result (λ value. view value ≡ reason_value pieces.now reason.now) }
 {
     let address = reason.hazard.address;
@@ -76,7 +76,7 @@ fn reason_json(alloc: Global, pieces: &[Descriptor], reason: &Reason) -> Result<
 /// The array of the conflicts of a fence.
 fn reasons_json(
     alloc: Global,
-    pieces: &[Descriptor],
+    pieces: &[Operation],
     reasons: &[Reason],
 ) -> Result<Value, AllocError>
     ensures { IfOk result
@@ -90,7 +90,7 @@ fn reasons_json(
 }
 
 /// The object of a fence.
-fn fence_json(alloc: Global, pieces: &[Descriptor], fence: &Fence) -> Result<Value, AllocError>
+fn fence_json(alloc: Global, pieces: &[Operation], fence: &Fence) -> Result<Value, AllocError>
     ensures { IfOk result (λ value. view value ≡ fence_value pieces.now fence.now) }
 {
     let before = fence.piece as u64;
@@ -102,7 +102,7 @@ fn fence_json(alloc: Global, pieces: &[Descriptor], fence: &Fence) -> Result<Val
 }
 
 /// The array of the fences.
-fn fences_json(alloc: Global, pieces: &[Descriptor], fences: &[Fence]) -> Result<Value, AllocError>
+fn fences_json(alloc: Global, pieces: &[Operation], fences: &[Fence]) -> Result<Value, AllocError>
     ensures { IfOk result
         (λ value. view value ≡ array_of (map (fence_value pieces.now) fences.now)) }
 {
@@ -114,14 +114,14 @@ fn fences_json(alloc: Global, pieces: &[Descriptor], fences: &[Fence]) -> Result
 }
 
 /// The canonical line of a piece.
-fn piece_json(alloc: Global, d: &Descriptor) -> Result<Value, AllocError>
+fn piece_json(alloc: Global, d: &Operation) -> Result<Value, AllocError>
     ensures { IfOk result (λ value. view value ≡ piece_value d.now) }
 {
     Ok(Value::String(line_of(alloc, d)?))
 }
 
 /// The array of the pieces.
-fn pieces_json(alloc: Global, pieces: &[Descriptor]) -> Result<Value, AllocError>
+fn pieces_json(alloc: Global, pieces: &[Operation]) -> Result<Value, AllocError>
     ensures { IfOk result (λ value. view value ≡ array_of (map piece_value pieces.now)) }
 {
     let mut values = Vec::with_capacity(alloc, pieces.len())?;
@@ -167,7 +167,7 @@ fn names_json(alloc: Global, names: &[String]) -> Result<Value, AllocError>
 fn explanation_json(
     alloc: Global,
     explanation: &Explanation,
-    pieces: &[Descriptor],
+    pieces: &[Operation],
     labels: &Labels<'_>,
     least: Option<u64>,
 ) -> Result<Value, AllocError>
@@ -201,7 +201,7 @@ fn explanation_json(
 pub fn explanation_line(
     alloc: Global,
     explanation: &Explanation,
-    pieces: &[Descriptor],
+    pieces: &[Operation],
     labels: &Labels<'_>,
     least: Option<u64>,
 ) -> Result<String, AllocError>

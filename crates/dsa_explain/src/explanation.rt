@@ -5,7 +5,8 @@ ghost use Rattle.dsa_explain.specs.declared.explanation.ExplainFault.TheVariants
 ghost use Rattle.dsa_explain.specs.Explained.{CanBeExplained, Explains, IsExplanationOf};
 
 use crate::cells::{Cell, lay_out};
-use dsa_descriptor::{Descriptor, MOST_PIECES};
+use dsa_descriptor::MOST_PIECES;
+use dsa_operations::Operation;
 use dsa_plan::{Costs, LegalFault, Plan, Settings, is_legal_with, plan_costs};
 use dsa_reasons::{Detail, Fence, fences_of};
 use std::alloc::{AllocError, Global};
@@ -62,7 +63,7 @@ impl From<AllocError> for ExplainFault {
 pub fn explain_legal(
     alloc: Global,
     plan: &Plan,
-    pieces: &[Descriptor],
+    pieces: &[Operation],
     barriers: &[bool],
     settings: &Settings,
     detail: Detail,
@@ -91,7 +92,7 @@ pub fn explain_legal(
 pub fn explain(
     alloc: Global,
     plan: &Plan,
-    pieces: &[Descriptor],
+    pieces: &[Operation],
     barriers: &[bool],
     settings: &Settings,
     detail: Detail,

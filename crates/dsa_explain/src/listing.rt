@@ -1,19 +1,20 @@
 //! The lines of an explanation.
 
-ghost use Rattle.std.specs.Prelude.{◌≡◌, ◌+◌, ◌<◌, ◌^◌, ◌++◌, IfOk, OnOk, Some, codes, decimal, drop, length, slice_get, string_bytes, if◌then◌else◌};
-ghost use Rattle.dsa_ranges.specs.Pieces.{writes_of};
+ghost use Rattle.std.specs.Prelude.{◌≡◌, ◌+◌, ◌<◌, ◌^◌, ◌++◌, IfOk, OnOk, Some, codes, decimal, drop, length, map, slice_get, string_bytes, if◌then◌else◌};
+ghost use Rattle.dsa_operations.specs.Operations.{writes_of};
 ghost use Rattle.dsa_reasons.specs.Sentences.{reason_words};
 ghost use Rattle.dsa_explain.specs.Runs.{labelling, listed, run_length};
-ghost use Rattle.dsa_explain.specs.Words.{cell_lines, explanation_words, fence_line, fences_left, further_lines, group_line, groups_words, is_lower, last_row, line_of_fence, line_of_run, lines_at, name_of, origins_words, parts_words, piece_line, pieces_line, run_line, run_lines, run_words, step_words};
+ghost use Rattle.dsa_explain.specs.Words.{cell_lines, explanation_words, fence_line, fences_left, further_lines, group_line, groups_words, is_lower, last_row, line_of_fence, line_of_run, lines_at, name_of, origins_words, parts_words, piece_line, pieces_line, record_at, run_line, run_lines, run_words, step_words};
 
 use crate::cells::Cell;
 use crate::explanation::Explanation;
 use crate::labels::{Labels, Origin};
 use crate::runs::{Listing, continues, run_length};
 use crate::words::{cost_text, groups_text, name_of, piece_text, push_name};
-use dsa_descriptor::Descriptor;
 use dsa_lines::line_of;
+use dsa_operations::Operation;
 use dsa_plan::{GroupCost, Settings};
+use dsa_ranges::Piece;
 use dsa_reasons::{Detail, Fence, Reason, fence_text, reason_text};
 use std::alloc::{AllocError, Global};
 
@@ -75,7 +76,7 @@ fn fence_front(alloc: Global, price: u64) -> Result<String, AllocError>
 fn push_further(
     alloc: Global,
     text: &mut String,
-    pieces: &[Descriptor],
+    pieces: &[Operation],
     reason: &Reason,
 ) -> Result<(), AllocError>
     ensures { OnOk result (string_bytes text.new ≡ string_bytes text.old ++
@@ -90,7 +91,7 @@ fn push_further(
 fn push_all_further(
     alloc: Global,
     text: &mut String,
-    pieces: &[Descriptor],
+    pieces: &[Operation],
     reasons: &[Reason],
 ) -> Result<(), AllocError>
     ensures { OnOk result (string_bytes text.new ≡ string_bytes text.old ++
@@ -116,7 +117,7 @@ fn after_first(named: &[Reason]) -> &[Reason]
 fn push_fence_line(
     alloc: Global,
     text: &mut String,
-    pieces: &[Descriptor],
+    pieces: &[Operation],
     fence: &Fence,
     price: u64,
 ) -> Result<(), AllocError>
@@ -134,7 +135,7 @@ fn push_fence_line(
 fn push_fence(
     alloc: Global,
     text: &mut String,
-    pieces: &[Descriptor],
+    pieces: &[Operation],
     fences: &[Fence],
     cell: &Cell,
     price: u64,
@@ -176,7 +177,7 @@ fn push_piece_line(
     alloc: Global,
     text: &mut String,
     index: usize,
-    d: &Descriptor,
+    d: &Operation,
     origin: Option<Origin>,
     name: &str,
 ) -> Result<(), AllocError>
@@ -189,13 +190,23 @@ fn push_piece_line(
     push_line(text, &words)
 }
 
+/// The address of an operation's completion record.
+fn record_at(d: &Operation) -> u64
+    ensures { result ≡ record_at d.now }
+{
+    match d {
+        Operation::Descriptor(descriptor) => descriptor.record_at,
+        Operation::Checksum(checksum) => checksum.record_at,
+    }
+}
+
 /// Whether the pieces run down: the record of the next one is lower.
-fn is_lower(pieces: &[Descriptor], index: usize) -> bool
+fn is_lower(pieces: &[Operation], index: usize) -> bool
     requires { index + 1 < 2 ^ 64 }
     ensures { result ≡ is_lower (slice_get pieces.now index) (slice_get pieces.now (index + 1)) }
 {
     match (pieces.get(index), pieces.get(index + 1)) {
-        (Some(d), Some(next)) => next.record_at < d.record_at,
+        (Some(d), Some(next)) => record_at(next) < record_at(d),
         (Some(_), None) | (None, _) => false,
     }
 }
@@ -301,12 +312,12 @@ fn push_origins(
 }
 
 /// The words of a run of several pieces.
-fn run_text(alloc: Global, run: &Run<'_>, d: &Descriptor) -> Result<String, AllocError>
+fn run_text(alloc: Global, run: &Run<'_>, d: &Operation) -> Result<String, AllocError>
     ensures { IfOk result (λ s. string_bytes s ≡
         run_words run.now.more run.now.is_down d.now run.now.origin run.now.name.now) }
 {
     let mut text = line_of(alloc, d)?;
-    push_origins(alloc, &mut text, run, d.size)?;
+    push_origins(alloc, &mut text, run, d.transfer_size())?;
     push_name(&mut text, run.name)?;
     Ok(text)
 }
@@ -316,7 +327,7 @@ fn push_run_line(
     alloc: Global,
     text: &mut String,
     run: &Run<'_>,
-    d: &Descriptor,
+    d: &Operation,
 ) -> Result<(), AllocError>
     ensures { OnOk result (string_bytes text.new ≡ string_bytes text.old ++
         run_line run.now.index run.now.more run.now.is_down d.now run.now.origin
@@ -333,7 +344,7 @@ fn push_pieces_line(
     alloc: Global,
     text: &mut String,
     run: &Run<'_>,
-    d: &Descriptor,
+    d: &Operation,
 ) -> Result<(), AllocError>
     ensures { OnOk result (string_bytes text.new ≡ string_bytes text.old ++
         pieces_line run.now.index run.now.more run.now.is_down (Some d.now) run.now.origin
@@ -343,6 +354,27 @@ fn push_pieces_line(
         push_piece_line(alloc, text, run.index, d, run.origin, run.name)
     } else {
         push_run_line(alloc, text, run, d)
+    }
+}
+
+/// The run that begins with the piece of this index.
+fn run_at<'a>(listing: &Listing<'a>, index: usize, more: usize) -> Run<'a>
+    requires { index + 1 < 2 ^ 64 }
+    ensures index { result.index ≡ index }
+    ensures more { result.more ≡ more }
+    ensures is_down { result.is_down ≡ is_lower (slice_get listing.now.pieces.now index)
+        (slice_get listing.now.pieces.now (index + 1)) }
+    ensures origin { result.origin ≡ slice_get listing.now.labels.origins.now index }
+    ensures name { result.name.now ≡
+        name_of (map string_bytes listing.now.labels.names.now) result.origin }
+{
+    let origin = listing.labels.origins.get(index).copied();
+    Run {
+        index,
+        more,
+        is_down: is_lower(listing.pieces, index),
+        origin,
+        name: name_of(listing.labels.names, origin),
     }
 }
 
@@ -358,14 +390,7 @@ fn push_line_of_run(
     ensures { OnOk result (string_bytes text.new ≡ string_bytes text.old ++
         line_of_run (listed listing.now) index more) }
 {
-    let origin = listing.labels.origins.get(index).copied();
-    let run = Run {
-        index,
-        more,
-        is_down: is_lower(listing.pieces, index),
-        origin,
-        name: name_of(listing.labels.names, origin),
-    };
+    let run = run_at(listing, index, more);
     match listing.pieces.get(index) {
         Some(d) => push_pieces_line(alloc, text, &run, d),
         None => Ok(()),
@@ -445,7 +470,7 @@ fn push_cells(
 pub fn explanation_text(
     alloc: Global,
     explanation: &Explanation,
-    pieces: &[Descriptor],
+    pieces: &[Operation],
     labels: &Labels<'_>,
     settings: &Settings,
     detail: Detail,

@@ -6,14 +6,14 @@ ghost use Rattle.dsa_drawing.specs.Pictures.{IsPicture};
 use crate::explanation::Explanation;
 use crate::labels::{Labels, Origin};
 use crate::words::{cost_text, group_text, push_origin};
-use dsa_descriptor::Descriptor;
 use dsa_drawing::{
     Bar, BarKind, Buffer, Column, Group, Layout, MOST_COLUMNS, Separated, Split, hazard_name,
     op_name,
 };
-use dsa_lines::op_text;
+use dsa_lines::operation_text;
+use dsa_operations::{ChecksumOp, Operation};
 use dsa_plan::{Costs, GroupCost, Settings, is_barrier};
-use dsa_ranges::touched;
+use dsa_ranges::{Piece, Touching};
 use dsa_reasons::{Fence, fence_text};
 use std::alloc::{AllocError, Global};
 
@@ -116,6 +116,17 @@ fn drawn_groups(
     Ok(groups)
 }
 
+/// The word of an operation.
+fn operation_name(d: &Operation) -> &'static str {
+    match d {
+        Operation::Descriptor(descriptor) => op_name(&descriptor.op),
+        Operation::Checksum(checksum) => match checksum.op {
+            ChecksumOp::Crc { .. } => "crc",
+            ChecksumOp::CopyCrc { .. } => "copy_crc",
+        },
+    }
+}
+
 /// The comment of a piece's operation, if it has one.
 fn comment_of(names: &[String], origin: Option<Origin>) -> Option<&str> {
     let comment = names.get(origin?.operation)?;
@@ -129,11 +140,11 @@ fn comment_of(names: &[String], origin: Option<Origin>) -> Option<&str> {
 /// The name of a piece: the comment of its operation, or its word; and which of the pieces of its operation it is.
 fn piece_name(
     alloc: Global,
-    d: &Descriptor,
+    d: &Operation,
     comment: Option<&str>,
     origin: Option<Origin>,
 ) -> Result<String, AllocError> {
-    let name = comment.unwrap_or(op_name(&d.op));
+    let name = comment.unwrap_or(operation_name(d));
     match origin {
         Some(Origin { piece, pieces, .. }) if pieces > 1 => {
             format!(in alloc; "{name} {piece}/{pieces}")
@@ -146,11 +157,11 @@ fn piece_name(
 fn piece_title(
     alloc: Global,
     number: usize,
-    d: &Descriptor,
+    d: &Operation,
     comment: Option<&str>,
     origin: Option<Origin>,
 ) -> Result<String, AllocError> {
-    let mut words = op_text(alloc, &d.op, d.size)?;
+    let mut words = operation_text(alloc, d)?;
     push_origin(alloc, &mut words, origin)?;
     match comment {
         Some(comment) => format!(in alloc; "{number}: {words} # {comment}"),
@@ -186,26 +197,26 @@ fn bytes_text(alloc: Global, bytes: u64) -> Result<String, AllocError> {
 /// The name of an operation of several pieces, from its first piece: its comment, or what it does with how many bytes.
 fn split_name(
     alloc: Global,
-    d: &Descriptor,
+    d: &Operation,
     comment: Option<&str>,
     bytes: u64,
 ) -> Result<String, AllocError> {
     match comment {
         Some(comment) => String::from_str(alloc, comment),
         None => {
-            let (name, size) = (op_name(&d.op), bytes_text(alloc, bytes)?);
+            let (name, size) = (operation_name(d), bytes_text(alloc, bytes)?);
             format!(in alloc; "{name} {size}")
         }
     }
 }
 
 /// How many bytes so many pieces from the first on have.
-fn bytes_of(pieces: &[Descriptor], first: usize, count: usize) -> u64 {
+fn bytes_of(pieces: &[Operation], first: usize, count: usize) -> u64 {
     let (_, rest) = pieces.split_at(first.min(pieces.len()));
     let (own, _) = rest.split_at(count.min(rest.len()));
     let mut bytes: u64 = 0;
     for d in own {
-        bytes = bytes.saturating_add(u64::from(d.size));
+        bytes = bytes.saturating_add(u64::from(d.transfer_size()));
     }
     bytes
 }
@@ -213,7 +224,7 @@ fn bytes_of(pieces: &[Descriptor], first: usize, count: usize) -> u64 {
 /// The operations of several pieces.
 fn drawn_splits(
     alloc: Global,
-    pieces: &[Descriptor],
+    pieces: &[Operation],
     labels: &Labels<'_>,
 ) -> Result<Vec<Split>, AllocError> {
     let mut splits = Vec::new(alloc);
@@ -234,7 +245,7 @@ fn drawn_splits(
 /// The pieces of a plan in the range.
 fn drawn_pieces(
     alloc: Global,
-    pieces: &[Descriptor],
+    pieces: &[Operation],
     labels: &Labels<'_>,
     range: PieceRange,
 ) -> Result<Vec<Column>, AllocError> {
@@ -249,8 +260,8 @@ fn drawn_pieces(
             number,
             name: piece_name(alloc, d, comment, origin)?,
             title: piece_title(alloc, number, d, comment, origin)?,
-            size: d.size,
-            touched: Some(touched(d)),
+            size: d.transfer_size(),
+            touched: Some(d.touched_spans()),
             has_record: true,
             split: split_of(origin),
         })?;
@@ -294,7 +305,7 @@ fn drawn_conflict(fence: &Fence, range: PieceRange) -> Option<Separated> {
 /// A fence of a plan, before this column.
 fn drawn_fence(
     alloc: Global,
-    pieces: &[Descriptor],
+    pieces: &[Operation],
     fence: &Fence,
     column: usize,
     range: PieceRange,
@@ -312,7 +323,7 @@ fn drawn_fence(
 /// The fences of a plan before pieces in the range.
 fn drawn_fences(
     alloc: Global,
-    pieces: &[Descriptor],
+    pieces: &[Operation],
     fences: &[Fence],
     range: PieceRange,
 ) -> Result<Vec<Bar>, AllocError> {
@@ -393,7 +404,7 @@ fn notes_of(
 pub fn draw(
     alloc: Global,
     explanation: &Explanation,
-    pieces: &[Descriptor],
+    pieces: &[Operation],
     labels: &Labels<'_>,
     view: View<'_>,
     settings: &Settings,

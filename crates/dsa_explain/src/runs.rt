@@ -5,8 +5,9 @@ ghost use Rattle.dsa_explain.specs.Runs.{are_alike, are_as_large, continues, goe
 
 use crate::cells::Cell;
 use crate::labels::{Labels, Origin};
-use dsa_descriptor::Descriptor;
+use dsa_operations::Operation;
 use dsa_plan::{GroupCost, Settings};
+use dsa_ranges::Piece;
 use dsa_reasons::Detail;
 
 /// What is listed: the pieces of a plan, the operation that each is of, what the groups cost under settings, and the
@@ -16,7 +17,7 @@ pub(crate) struct Listing<'a> {
     pub(crate) settings: &'a Settings,
     pub(crate) detail: Detail,
     pub(crate) groups: &'a [GroupCost],
-    pub(crate) pieces: &'a [Descriptor],
+    pub(crate) pieces: &'a [Operation],
     pub(crate) labels: Labels<'a>,
 }
 
@@ -34,12 +35,12 @@ fn is_so_far_after(count: usize, origin: Option<Origin>, later: Option<Origin>) 
 }
 
 /// Whether both pieces have one size.
-fn are_as_large(pieces: &[Descriptor], before: usize, index: usize) -> bool
+fn are_as_large(pieces: &[Operation], before: usize, index: usize) -> bool
     ensures { result ≡
         are_as_large (slice_get pieces.now before) (slice_get pieces.now index) }
 {
     match (pieces.get(before), pieces.get(index)) {
-        (Some(d), Some(later)) => later.size == d.size,
+        (Some(d), Some(later)) => later.transfer_size() == d.transfer_size(),
         (Some(_), None) | (None, _) => false,
     }
 }

@@ -8,7 +8,7 @@ ghost use Rattle.dsa_explain.specs.Waits.{AreSets, AreWaits, RefusesWaits, await
 
 use crate::listing::push_line;
 use crate::words::plural;
-use dsa_descriptor::Descriptor;
+use dsa_operations::Operation;
 use dsa_plan::Plan;
 use dsa_tracker::{Slots, TrackFault, WordsFault, words};
 use std::alloc::{AllocError, Global};
@@ -82,7 +82,7 @@ fn sets_of(alloc: Global, tracker: &[u64], slots: &[u32]) -> Result<Vec<Slots>, 
 pub fn group_waits(
     alloc: Global,
     plan: &Plan,
-    pieces: &[Descriptor],
+    pieces: &[Operation],
     staging: u64,
 ) -> Result<Waits, WaitsFault>
     ensures { MatchResult result

@@ -4,8 +4,8 @@ ghost use Rattle.std.specs.Prelude.{◌≡◌, ◌++◌, IfOk, OnOk, codes, deci
 ghost use Rattle.dsa_explain.specs.Words.{alike_words, batch_words, cost_words, fences_words, full_words, group_words, groups_words, lone_words, name_of, name_words, origin_words, piece_words, pieces_words, plural, saved_words, size_words};
 
 use crate::labels::Origin;
-use dsa_descriptor::Descriptor;
 use dsa_lines::line_of;
+use dsa_operations::Operation;
 use dsa_plan::{Costs, GroupCost};
 use std::alloc::{AllocError, Global};
 
@@ -162,7 +162,7 @@ pub(crate) fn name_of(names: &[String], origin: Option<Origin>) -> &str
 /// The words of a piece: its canonical line, which piece it is if its operation was split, and the operation's name.
 pub(crate) fn piece_text(
     alloc: Global,
-    d: &Descriptor,
+    d: &Operation,
     origin: Option<Origin>,
     name: &str,
 ) -> Result<String, AllocError>

@@ -28,7 +28,7 @@ use Rattle.dsa_calls.proofs.PiecesChecked.{only_check, refused_call}
 use Rattle.dsa_operations.specs.declared.operation.Operation.{Operation}
 use Rattle.dsa_operations.specs.declared.operation.Operation.TheVariants as operation
 use Rattle.dsa_lists.specs.declared.submitting.PlannedOperations.{PlannedOperations}
-use Rattle.dsa_lists.specs.AnyLists.{ChecksAnyList, IsAnyPlan, IsLeastOfAnyList, IsOfDescriptors, JudgesAnyList, PlansAnyList, counted, counted_outcome}
+use Rattle.dsa_lists.specs.AnyLists.{ChecksAnyList, HasCostOf, IsAnyPlan, IsLeastOfAnyList, IsOfDescriptors, JudgesAnyList, PlansAnyList, counted, counted_outcome}
 use Rattle.dsa_lists.specs.Checking.{ChecksOperationList}
 use Rattle.dsa_lists.specs.Submissions.{AreReady, IsOperationSubmission, JudgesOperationList, OperationSubmission, PlansOperationList, operation_submission_of}
 use Rattle.dsa_lists.proofs.Ready.{one_operation_check, one_operation_judge, one_operation_plan, operation_plan_is_checked, operation_plan_is_least}
@@ -159,6 +159,17 @@ module _ (bytes : List ℕ) (s : Limits) where
     count = sub.pieces_are;
     plan_is = refl;
   }
+
+  -- and their cost
+  pub fenced_cost : (q : Submission) → PlansFenced bytes s (Ok q) → HasCostOf bytes s q.cost
+  fenced_cost q plans = (counted q, planned_any q plans, refl)
+
+  pub ready_cost : ¬ IsOfDescriptors bytes → (operations : List Operation) (barriers : List Bool) (p : OperationSubmission) → AreReady bytes s operations → barriers ≡ barriers_of bytes
+      → IsOperationSubmission s operations barriers p → HasCostOf bytes s p.cost
+  unfolding ready_any
+  ready_cost none operations barriers p ready is sub =
+      let plan = ready_any none operations barriers p ready is sub in
+      (plan.submission, plan.planned, refl)
 
   pub refused_of_operations : ¬ IsOfDescriptors bytes → (fault : PlanFault) → (fault ≡ Memory) ⊎ PlansOperationList bytes s (Err fault) → (fault ≡ Memory) ⊎ PlansAnyList bytes s (Err fault)
   refused_of_operations none fault (inl memory) = inl memory

@@ -103,7 +103,7 @@ no_list bytes os spelled none (ds, listed) =
     none ds (one_operations bytes (map operation.Descriptor ds) os (listed.spelled ∙ list_is ds ∙ sym (spelt_alike ds)) spelled)
 
 -- descriptors that can be submitted as operations can be planned
-unmapped : (ds : List Descriptor) → AreOfOneOwner spelling_of (map operation.Descriptor ds) → AreOfOneOwner spelt ds
+pub unmapped : (ds : List Descriptor) → AreOfOneOwner spelling_of (map operation.Descriptor ds) → AreOfOneOwner spelt ds
 unmapped ds owner i j d less within =
     let inside : j < length (map operation.Descriptor ds) = omega (arith, within, length-map ds operation.Descriptor) in
     let first = get_or-map operation.Descriptor ds i d (operation.Descriptor d) (omega (arith, less, within)) in

@@ -5,3 +5,4 @@ pub mod Ready
 pub mod AnyLists
 pub mod SubmittedAlike
 pub mod Left
+pub mod ReadLists

@@ -37,7 +37,7 @@ some_element [] j inside = absurd (omega arith)
 some_element (x ∷ xs) j inside = x
 
 -- any two of a list that is made of another agree
-all_pairs_map : {A B : Type 0} (R : B → B → Type 0) (h : A → B) (xs : List A) → AllPairs (λ x y. R (h x) (h y)) xs → AllPairs R (map h xs)
+pub all_pairs_map : {A B : Type 0} (R : B → B → Type 0) (h : A → B) (xs : List A) → AllPairs (λ x y. R (h x) (h y)) xs → AllPairs R (map h xs)
 all_pairs_map {A} {B} R h xs all i j d lt inside =
     let within_these : j < length xs = omega (arith, inside, length-map xs h) in
     let x = some_element xs j within_these in
@@ -73,7 +73,7 @@ module _ (C D : ℕ → ℕ → Type 0) (there : (i j : ℕ) → C i j → D i j
   without : (start end a b : ℕ) → ConflictsWithin C start end a b → ConflictsWithin D start end a b
   without start end a b h = record { starts = h.starts; ordered = h.ordered; ends = h.ends; conflict = there a b h.conflict }
 
-  legal_alike : (greatest_batch n : ℕ) (plan : Plan) → IsLegal C greatest_batch n plan → IsLegal D greatest_batch n plan
+  pub legal_alike : (greatest_batch n : ℕ) (plan : Plan) → IsLegal C greatest_batch n plan → IsLegal D greatest_batch n plan
   legal_alike greatest_batch n plan h = record {
     covers = h.covers;
     groups = λ number group at.

@@ -75,6 +75,10 @@ pub record IsAnyPlan (bytes : List ℕ) (s : Limits) (pieces : List Operation) (
   pub count : submission.pieces ≡ length pieces
   pub plan_is : plan ≡ submission.plan
 
+-- this is the cost that planning the list answers
+abbrev pub HasCostOf : List ℕ → Limits → ℕ → Type 0
+HasCostOf bytes s cost = (submission : OperationSubmission) × PlansAnyList bytes s (Ok submission) × (cost ≡ submission.cost)
+
 -- the bytes submit a plan of this cost for the pieces of the list; it keeps each barrier, and no legal plan that does costs
 -- less
 abbrev pub IsLeastEmissionOfAnyList : List ℕ → List ℕ → List ℕ → Limits → ℕ → Type 0

@@ -2,7 +2,7 @@
 
 ghost use Rattle.std.specs.Prelude.{◌≡◌, ◌⊎◌, Err, IfErr, IfOk, map};
 ghost use Rattle.dsa_calls.specs.declared.fault.PlanFault.TheVariants.{Memory};
-ghost use Rattle.dsa_lists.specs.AnyLists.{ArePiecesOfList, IsAnyPlan, IsOfDescriptors, PlansAnyList};
+ghost use Rattle.dsa_lists.specs.AnyLists.{ArePiecesOfList, HasCostOf, IsAnyPlan, IsOfDescriptors, PlansAnyList};
 ghost use Rattle.dsa_operations.specs.declared.operation.Operation.TheVariants as operation;
 
 use crate::any_list::is_of_bytes;
@@ -32,10 +32,12 @@ pub struct AnyPlanned {
     pub barriers: Vec<bool>,
     /// Their plan.
     pub plan: Plan,
+    /// What it costs, in the unit of the settings' prices.
+    pub cost: u64,
 }
 
 /// Each descriptor as an operation.
-pub(crate) fn operations_of(
+pub fn operations_of(
     alloc: Global,
     descriptors: &[Descriptor],
 ) -> Result<Vec<Operation>, AllocError>
@@ -75,6 +77,8 @@ pub fn any_pieces(alloc: Global, list: &[u8], settings: &Settings) -> Result<Any
 fn plan_ready(alloc: Global, list: &[u8], settings: &Settings) -> Result<AnyPlanned, PlanFault>
     ensures found { ¬ IsOfDescriptors list.now → IfOk result (λ p. IsAnyPlan
         list.now settings.now p.operations.items p.barriers.items p.plan) }
+    ensures cost { ¬ IsOfDescriptors list.now → IfOk result
+        (λ p. HasCostOf list.now settings.now p.cost) }
     ensures fault { ¬ IsOfDescriptors list.now → IfErr result
         (λ fault. (fault ≡ Memory) ⊎ PlansAnyList list.now settings.now (Err fault)) }
 {
@@ -84,6 +88,7 @@ fn plan_ready(alloc: Global, list: &[u8], settings: &Settings) -> Result<AnyPlan
         operations: read.entries,
         barriers: read.barriers,
         plan: planned.plan,
+        cost: planned.cost,
     })
 }
 
@@ -99,6 +104,7 @@ pub fn plan_any_pieces(
 ) -> Result<AnyPlanned, PlanFault>
     ensures found { IfOk result (λ p. IsAnyPlan list.now settings.now
         p.operations.items p.barriers.items p.plan) }
+    ensures cost { IfOk result (λ p. HasCostOf list.now settings.now p.cost) }
     ensures fault { IfErr result
         (λ fault. (fault ≡ Memory) ⊎ PlansAnyList list.now settings.now (Err fault)) }
 {
@@ -109,6 +115,7 @@ pub fn plan_any_pieces(
                 operations,
                 barriers: planned.barriers,
                 plan: planned.plan,
+                cost: planned.cost,
             })
         }
         Err(fault) => {

@@ -1,7 +1,7 @@
 -- What explaining an input answers: notes beside an answer to operations change neither its status nor its text.
 use Rattle.std.proofs.Common.{◌≡◌, ◌∙◌, ℕ, Bool, false, List, [], ap, Result, IfOk, string_bytes, sym, subst, Some, codes}
 use Rattle.std.proofs.lemmas.Result.{IfOk-weaker}
-use Rattle.dsa_descriptor.specs.Fences.{barriers_of as barriers_in, unfenced_list}
+use Rattle.dsa_descriptor.specs.Fences.{barriers_of as barriers_in}
 use Rattle.dsa_plan.specs.Settings.{Limits}
 use Rattle.dsa_lines.specs.declared.fault.TextFault.{TextFault}
 use Rattle.dsa_lines.specs.declared.fault.TextFault.TheVariants.{Grammar, List as Listed, Memory as TextMemory}
@@ -17,7 +17,8 @@ use Rattle.dsa_advice.specs.declared.form.Form.{Form}
 use Rattle.dsa_text.specs.declared.taken.Content.{Content}
 use Rattle.dsa_text.specs.declared.taken.Content.TheVariants.{Text, List as InList, Recording}
 use Rattle.dsa_advice.specs.Comments.{names_of}
-use Rattle.dsa_advice.specs.Explained.{ExplainsList, ExplainsText, is_assembled, is_planned, is_refused_list, is_refused_text}
+use Rattle.dsa_operations.specs.declared.operation.Operation.{Operation}
+use Rattle.dsa_advice.specs.Explained.{ExplainsList, ExplainsOperations as ExplainsPlanned, ExplainsText, is_assembled, is_list, is_no_list, is_planned, is_refused, is_refused_text}
 use Rattle.dsa_advice.specs.Shown.{form_of}
 use Rattle.dsa_text.specs.Inputs.{ExplainsContent, ExplainsInput, ExplainsOperations, ExplainsSaid, names_pieces, spells_none, spells_settings}
 use Rattle.dsa_text.specs.Options.{IsFlag, range_of}
@@ -36,19 +37,26 @@ text_refused (Grammar line column what) a b status text r =
 text_refused (Listed line fault) a b status text r = refused_beside (list_cause fault) a b status text r
 text_refused TextMemory a b status text r = refused_beside Memory a b status text r
 
-list_beside : (list : List ℕ) (bs : List Bool) (names : List (List ℕ)) (s : Limits) (form : Form) (a b : Answer)
-    → b.status ≡ a.status → b.text ≡ a.text → ExplainsList list bs names s form a → ExplainsList list bs names s form b
-list_beside list bs names s form a b status text (is_refused_list fault cause r) =
-    is_refused_list fault cause (refused_beside fault a b status text r)
-list_beside list bs names s form a b status text (is_planned ds p listed says answers) =
-    is_planned ds p listed says (plan_beside s p.plan p.pieces _ _ _ form a b status text answers)
+planned_beside : (operations : List Operation) (bs : List Bool) (names : List (List ℕ)) (s : Limits) (form : Form) (a b : Answer)
+    → b.status ≡ a.status → b.text ≡ a.text → ExplainsPlanned operations bs names s form a → ExplainsPlanned operations bs names s form b
+planned_beside operations bs names s form a b status text (is_refused fault cause r) =
+    is_refused fault cause (refused_beside fault a b status text r)
+planned_beside operations bs names s form a b status text (is_planned p says answers) =
+    is_planned p says (plan_beside s p.plan p.pieces _ _ _ form a b status text answers)
+
+list_beside : (list : List ℕ) (s : Limits) (form : Form) (a b : Answer)
+    → b.status ≡ a.status → b.text ≡ a.text → ExplainsList list s form a → ExplainsList list s form b
+list_beside list s form a b status text (is_no_list fault first r) = is_no_list fault first (refused_beside (list_cause fault) a b status text r)
+list_beside list s form a b status text (is_list operations spelled owner explains) =
+    is_list operations spelled owner (planned_beside operations (barriers_in list) [] s form a b status text explains)
 
 text_beside : (lines : List ℕ) (keep : Bool) (s : Limits) (form : Form) (a b : Answer)
     → b.status ≡ a.status → b.text ≡ a.text → ExplainsText lines keep s form a → ExplainsText lines keep s form b
 text_beside lines keep s form a b status text (is_refused_text fault assembles r) =
     is_refused_text fault assembles (text_refused fault a b status text r)
-text_beside lines keep s form a b status text (is_assembled list listing explains) =
-    is_assembled list listing (list_beside list (barriers_of keep (lines_of lines)) (names_of (lines_of lines)) s form a b status text explains)
+text_beside lines keep s form a b status text (is_assembled operations spelled owner explains) =
+    is_assembled operations spelled owner
+    (planned_beside operations (barriers_of keep (lines_of lines)) (names_of (lines_of lines)) s form a b status text explains)
 
 recording_beside : (bytes : List ℕ) (s : Limits) (form : Form) (a b : Answer)
     → b.status ≡ a.status → b.text ≡ a.text → ExplainsRecording bytes s form a → ExplainsRecording bytes s form b
@@ -61,7 +69,7 @@ content_beside : (content : Content) (input : List ℕ) (keep : Bool) (s : Limit
     → b.status ≡ a.status → b.text ≡ a.text → ExplainsContent content input keep s form a → ExplainsContent content input keep s form b
 content_beside Text input keep s form a b status text h = text_beside input keep s form a b status text h
 content_beside InList input keep s form a b status text h =
-    list_beside (unfenced_list input) (barriers_in input) [] s form a b status text h
+    list_beside input s form a b status text h
 content_beside Recording input keep s form a b status text h = recording_beside input s form a b status text h
 
 operations_beside : (content : Content) (m : ArgMatches) (input : List ℕ) (form : Form) (a b : Answer)

@@ -3,7 +3,6 @@ use Rattle.std.specs.Prelude.{◌≡◌, ℕ, Bool, true, false, List, [], ◌++
 use Rattle.clap.specs.declared.parser.matches.ArgMatches.{ArgMatches}
 use Rattle.dsa_sentences.specs.declared.causes.TextCause.TheVariants.{Options}
 use Rattle.dsa_sentences.specs.Endings.{ending_of}
-use Rattle.dsa_descriptor.specs.Fences.{barriers_of, unfenced_list}
 use Rattle.dsa_plan.specs.Settings.{Limits}
 use Rattle.dsa_explain.specs.declared.picture.PieceRange.{PieceRange}
 use Rattle.dsa_calls.specs.declared.fault.PlanFault.TheVariants.{Hex, Settings as Outside}
@@ -38,7 +37,7 @@ pub data ExplainsWithOptions (m : ArgMatches) (text : List ℕ) (form : Form) (a
 -- of a recording
 abbrev pub ExplainsContent : Content → List ℕ → Bool → Limits → Form → Answer → Type 0
 ExplainsContent Text text keep s form a = ExplainsText text keep s form a
-ExplainsContent Listed bytes keep s form a = ExplainsList (unfenced_list bytes) (barriers_of bytes) [] s form a
+ExplainsContent Listed bytes keep s form a = ExplainsList bytes s form a
 ExplainsContent Recording bytes keep s form a = ExplainsRecording bytes s form a
 
 -- operations are refused if the options spell no settings; else they are explained with these

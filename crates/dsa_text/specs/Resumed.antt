@@ -1,8 +1,10 @@
 -- What `resume` answers (this project's choice).
 use Rattle.std.specs.Prelude.{◌≡◌, ◌⊎◌, ◌++◌, ℕ, Bool, List, Some, codes, decimal, map, string_bytes, Ok, Err}
-use Rattle.dsa_descriptor.specs.declared.descriptor.Descriptor.{Descriptor}
-use Rattle.dsa_descriptor.specs.Descriptors.{fields}
-use Rattle.dsa_descriptor.specs.Lists.{HaveOneOwner}
+use Rattle.dsa_descriptor.specs.Lists.{AreOfOneOwner}
+use Rattle.dsa_operations.specs.declared.operation.Operation.{Operation}
+use Rattle.dsa_operations.specs.OperationFields.{operation_fields}
+use Rattle.dsa_operations.specs.Operations.{spelling_of}
+use Rattle.dsa_lists.specs.Resuming.{ResumesRead}
 use Rattle.dsa_plan.specs.Settings.{Limits}
 use Rattle.dsa_lines.specs.declared.fault.TextFault.{TextFault}
 use Rattle.dsa_lines.specs.Assembled.{Assembles}
@@ -15,7 +17,6 @@ use Rattle.dsa_resume.specs.declared.fault.ResumeFault.TheVariants.{Plan, NotFai
 use Rattle.dsa_resume.specs.declared.left.LeftOrder.{LeftOrder}
 use Rattle.dsa_resume.specs.Causes.{resume_indices, resume_name, resume_number}
 use Rattle.dsa_resume.specs.Rest.{Remainder}
-use Rattle.dsa_resume.specs.Resumed.{ResumesOperations}
 use Rattle.dsa_advice.specs.declared.answer.Answer.{Answer}
 use Rattle.dsa_advice.specs.Refusals.{IsRefusal, RefusesText}
 
@@ -36,14 +37,14 @@ IsResumeRefusal (NotFailed i) a = (a.status ≡ 1) × NamesResume (NotFailed i) 
 IsResumeRefusal (PassedBarrier i j) a = (a.status ≡ 1) × NamesResume (PassedBarrier i j) (string_bytes a.text)
 
 -- the canonical text of what is left
-pub record IsRestText (rest : Remainder Descriptor) (a : Answer) : Type 0 where
+pub record IsRestText (rest : Remainder Operation) (a : Answer) : Type 0 where
   pub status : a.status ≡ 0
-  pub lines : string_bytes a.text ≡ marked_text (map fields rest.pieces) rest.barriers
+  pub lines : string_bytes a.text ≡ marked_text (map operation_fields rest.pieces) rest.barriers
 
 -- the text spells these operations, of one owner; a line `barrier` is a barrier, and so is the fence of a line if fences are kept
-pub record IsListedText (text : List ℕ) (keep_fences : Bool) (ds : List Descriptor) (barriers : List Bool) : Type 0 where
-  pub spelled : all_fields (lines_of text) ≡ Some (map fields ds)
-  pub one_owner : HaveOneOwner (map fields ds)
+pub record IsListedText (text : List ℕ) (keep_fences : Bool) (operations : List Operation) (barriers : List Bool) : Type 0 where
+  pub spelled : all_fields (lines_of text) ≡ Some (map operation_fields operations)
+  pub one_owner : AreOfOneOwner spelling_of operations
   pub barriers_are : barriers ≡ barriers_of keep_fences (lines_of text)
 
 -- The answer to a text, to records and to what is given up: the refusal of a text that spells no list, or of its list or
@@ -51,9 +52,9 @@ pub record IsListedText (text : List ℕ) (keep_fences : Bool) (ds : List Descri
 pub data ResumesText (text : List ℕ) (keep_fences : Bool) (s : Limits) (records given_up : List ℕ) (order : LeftOrder) (a : Answer) : Type 0 where
   is_no_list : (fault : TextFault) → Assembles {X = List ℕ} (λ bytes. bytes) (lines_of text) (Err fault) → RefusesText fault a
       → ResumesText text keep_fences s records given_up order a
-  is_refused : (ds : List Descriptor) (barriers : List Bool) (fault : ResumeFault) → IsListedText text keep_fences ds barriers
-      → (fault ≡ Plan Memory) ⊎ ResumesOperations s (map fields ds) barriers records given_up order (Err fault)
+  is_refused : (operations : List Operation) (barriers : List Bool) (fault : ResumeFault) → IsListedText text keep_fences operations barriers
+      → (fault ≡ Plan Memory) ⊎ ResumesRead s operations barriers records given_up order (Err fault)
       → IsResumeRefusal fault a → ResumesText text keep_fences s records given_up order a
-  has_left : (ds : List Descriptor) (barriers : List Bool) (rest : Remainder Descriptor) → IsListedText text keep_fences ds barriers
-      → ResumesOperations s (map fields ds) barriers records given_up order (Ok rest)
+  has_left : (operations : List Operation) (barriers : List Bool) (rest : Remainder Operation) → IsListedText text keep_fences operations barriers
+      → ResumesRead s operations barriers records given_up order (Ok rest)
       → IsRestText rest a → ResumesText text keep_fences s records given_up order a

@@ -9,6 +9,8 @@ use dsa_advice::{
 use dsa_calls::PlanFault;
 use dsa_descriptor::{FieldFault, ListFault};
 use dsa_lines::{OperationLine, TextList, assemble_fenced, line_of_operation};
+use dsa_lists::descriptors_in;
+use dsa_operations::Operation;
 use dsa_plan::Settings;
 use dsa_splitter::pieces;
 use std::alloc::{AllocError, Global};
@@ -39,22 +41,42 @@ fn job_of_list(alloc: Global, list: &[u8], settings: &Settings) -> Result<Answer
     Ok(Answer::done(job))
 }
 
-/// The refusal of a job whose list would have a barrier before this operation.
-fn barrier_in_job(
+/// The refusal of a job whose list would have this operation, which no job takes.
+fn refused_in_job(
     alloc: Global,
     lines: &[OperationLine<'_>],
     operation: usize,
+    why: &str,
+    fault: FieldFault,
 ) -> Result<Answer, AllocError> {
     let line = line_of_operation(lines, operation);
-    let place = format!(in alloc; "line {line}, operation {operation}: ")?;
-    let mut words = String::from_str(alloc, &place)?;
-    words.push_str("a job takes no barrier before an operation")?;
-    let fault = ListFault::Field(operation, FieldFault::FlagBits);
+    let words = format!(in alloc; "line {line}, operation {operation}: a job takes no {why}")?;
+    let fault = ListFault::Field(operation, fault);
     Answer::fault_with(alloc, PlanFault::from(fault), &words)
 }
 
-/// The job to plan the list of a text, which has these bytes. One that can't be planned, or has barriers, is refused
-/// here, where its lines are known.
+/// The refusal of a job whose list would have a checksum.
+fn checksum_in_job(alloc: Global, read: &TextList<'_>) -> Result<Answer, AllocError> {
+    let first = read
+        .list
+        .entries
+        .iter()
+        .position(|operation| match operation {
+            Operation::Descriptor(_) => false,
+            Operation::Checksum(_) => true,
+        });
+    let operation = first.unwrap_or(0);
+    refused_in_job(
+        alloc,
+        &read.lines,
+        operation,
+        "checksum",
+        FieldFault::Opcode,
+    )
+}
+
+/// The job to plan the list of a text, which has these bytes. One that can't be planned, or has barriers or checksums,
+/// is refused here, where its lines are known.
 fn job_answer(
     alloc: Global,
     text: &[u8],
@@ -63,13 +85,17 @@ fn job_answer(
     settings: &Settings,
 ) -> Result<Answer, AllocError> {
     if let Some(operation) = read.list.barriers.iter().position(|mark| *mark) {
-        return barrier_in_job(alloc, &read.lines, operation);
+        let why = "barrier before an operation";
+        return refused_in_job(alloc, &read.lines, operation, why, FieldFault::FlagBits);
     }
-    match pieces(alloc, &read.list.descriptors, settings) {
+    let Some(found) = descriptors_in(alloc, &read.list)? else {
+        return checksum_in_job(alloc, read);
+    };
+    match pieces(alloc, &found.descriptors, settings) {
         Ok(_) => job_of_list(alloc, list, settings),
         Err(cause) => refuse_unplanned(
             alloc,
-            &read.list.descriptors,
+            &read.list.entries,
             settings,
             Source::Text(text, &read.lines),
             PlanFault::from(cause),

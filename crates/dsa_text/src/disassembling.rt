@@ -7,9 +7,10 @@ use crate::options::word;
 use clap::ArgMatches;
 use dsa_advice::{Answer, bytes_or_refusal, limits_of, number_of};
 use dsa_calls::PlanFault;
-use dsa_descriptor::{FieldFault, ListFault, read_descriptor_list};
+use dsa_descriptor::{FieldFault, ListFault, read_entries};
 use dsa_forms::is_text;
 use dsa_lines::{EmittedFault, text_with_barriers};
+use dsa_operations::Operation;
 use dsa_plan::Setting;
 use std::alloc::{AllocError, Global};
 
@@ -62,9 +63,9 @@ fn disassemble_list(alloc: Global, list: &[u8]) -> Result<Answer, AllocError> {
 fn disassemble_fenced(alloc: Global, list: &[u8]) -> Result<Answer, AllocError>
     ensures { IfOk result (DisassemblesFenced list.now) }
 {
-    match read_descriptor_list(alloc, list) {
+    match read_entries::<Operation>(alloc, list) {
         Ok(read) => {
-            let text = text_with_barriers(alloc, &read.descriptors, &read.barriers)?;
+            let text = text_with_barriers(alloc, &read.entries, &read.barriers)?;
             Ok(Answer::done(text))
         }
         Err(fault) => Answer::list_fault(alloc, list, fault),

@@ -16,11 +16,13 @@ use dsa_advice::{
     Answer, bytes_or_refusal, joined, numbers_of, push_indices, push_sentence, resume_notes,
     settings_of,
 };
-use dsa_descriptor::{Descriptor, MOST_PIECES};
+use dsa_descriptor::MOST_PIECES;
 use dsa_forms::is_text;
 use dsa_lines::{TextList, parse_text, text_with_barriers};
+use dsa_lists::resume_read_list;
+use dsa_operations::Operation;
 use dsa_plan::Settings;
-use dsa_resume::{LeftOrder, Rest, ResumeFault, resume_operations};
+use dsa_resume::{LeftOrder, Rest, ResumeFault};
 use std::alloc::{AllocError, Global};
 use std::process::ExitCode;
 
@@ -131,14 +133,14 @@ fn resume_text<'a>(
         Ok(read) => read,
         Err(fault) => return Ok((Answer::text_fault(alloc, text, fault)?, None)),
     };
-    match resume_operations(alloc, &read.list, settings, records, given_up, order) {
+    match resume_read_list(alloc, &read.list, settings, records, given_up, order) {
         Ok(rest) => Ok((rest_answer(alloc, &rest, records)?, Some(read))),
         Err(fault) => Ok((fault_answer(alloc, fault)?, Some(read))),
     }
 }
 
 /// The lines of what is left, with a note on what is left out.
-fn rest_answer(alloc: Global, rest: &Rest<Descriptor>, records: &[u8]) -> Result<Answer, AllocError>
+fn rest_answer(alloc: Global, rest: &Rest<Operation>, records: &[u8]) -> Result<Answer, AllocError>
     ensures { IfOk result (IsRestText (remainder_of rest.now)) }
 {
     let lines = text_with_barriers(alloc, &rest.pieces, &rest.barriers)?;
@@ -149,7 +151,7 @@ fn rest_answer(alloc: Global, rest: &Rest<Descriptor>, records: &[u8]) -> Result
 /// What is said of the pieces that are left out.
 fn left_out_note(
     alloc: Global,
-    rest: &Rest<Descriptor>,
+    rest: &Rest<Operation>,
     records: &[u8],
 ) -> Result<Option<String>, AllocError> {
     let Some(out) = rest.left_out else {

@@ -1,8 +1,5 @@
-use Rattle.std.proofs.Common.{Some, List, ap, ◌∙◌}
+use Rattle.std.proofs.Common.{Some, ap, ◌∙◌}
 use Rattle.std.specs.Prelude.{map, string_bytes}
-use Rattle.dsa_descriptor.specs.declared.descriptor.Descriptor.{Descriptor}
-use Rattle.dsa_descriptor.specs.Descriptors.{fields}
-use Rattle.dsa_advice.specs.Origins.{origins_from}
 use Rattle.dsa_advice.proofs.Answered.{subject_answered, subject_can}
 use Rattle.dsa_advice.proofs.Named.{labelled}
 use Rattle.dsa_advice.proofs.explaining.answer_planned.Goals as goal
@@ -11,12 +8,12 @@ pub returns : goal.returns
 returns c =
     let planned = c.args.planned.now in
     let made = c.subject_of-subject.ensures in
-    let origins = c.deref-2.ensures.value ∙ c.in_ok-origins.ensures ∙ ap (λ (ds : List Descriptor). origins_from c.args.settings.now.greatest_transfer 0 (map fields ds)) c.deref.ensures.value in
-    subject_answered c.answer_plan.result c.args.settings.now c.subject_of-subject.result planned.plan planned.pieces.items planned.barriers.items _ (Some planned.cost) c.args.form made.plan made.pieces made.barriers
-    (made.labels ∙ labelled origins (ap (map string_bytes) c.deref-3.ensures.value ∙ c.in_ok-comments.ensures)) made.least c.answer_plan.ensures
+    let origins = c.deref.ensures.value ∙ c.in_ok-origins.ensures in
+    subject_answered c.answer_plan.result c.args.settings.now c.subject_of-subject.result planned.plan planned.operations.items planned.barriers.items _ (Some planned.cost) c.args.form made.plan made.pieces made.barriers
+    (made.labels ∙ labelled origins (ap (map string_bytes) c.deref-2.ensures.value ∙ c.in_ok-comments.ensures)) made.least c.answer_plan.ensures
 
 pub answer_plan-requires : goal.answer_plan-requires
 answer_plan-requires c =
     let planned = c.args.planned.now in
     let made = c.subject_of-subject.ensures in
-    subject_can c.args.settings.now c.subject_of-subject.result planned.plan planned.pieces.items planned.barriers.items made.plan made.pieces made.barriers c.requires
+    subject_can c.args.settings.now c.subject_of-subject.result planned.plan planned.operations.items planned.barriers.items made.plan made.pieces made.barriers c.requires

@@ -1,19 +1,13 @@
-use Rattle.std.proofs.Common.{Bool, IfOk, List, [], refl, subst}
+use Rattle.std.proofs.Common.{Bool, IfOk, List, [], subst}
 use Rattle.std.proofs.lemmas.Result.{IfOk-weaker}
-use Rattle.dsa_descriptor.specs.Fences.{unfenced_list}
-use Rattle.dsa_calls.specs.Fault.{list_cause}
-use Rattle.dsa_calls.specs.Planned.{PlansOperations, Submission}
-use Rattle.dsa_calls.proofs.Over.{list_refused}
-use Rattle.dsa_advice.specs.Explained.{ExplainsList, is_refused_list}
+use Rattle.dsa_advice.specs.Explained.{ExplainsOperations, is_list, is_no_list}
 use Rattle.dsa_advice.proofs.explaining.explain_fenced.Goals as goal
 
 pub returns-in-Ok : goal.returns-in-Ok
 returns-in-Ok c =
-    let found = c.in-Ok.ensures.found in
-    subst (λ (bs : List Bool). IfOk c.explain_operations.result (ExplainsList (unfenced_list c.args.list.now) bs [] c.args.settings.now c.args.form)) c.in-Ok.ensures.barriers
-    (c.explain_operations.ensures (unfenced_list c.args.list.now) (record { spelled = found.0; owner = found.1 }))
+    let read = c.in-Ok.operations in
+    let shown = subst (λ (bs : List Bool). IfOk c.explain_operations.result (ExplainsOperations read.entries.items bs [] c.args.settings.now c.args.form)) c.in-Ok.ensures.barriers c.explain_operations.ensures in
+    IfOk-weaker c.explain_operations.result _ _ (λ a h. is_list read.entries.items c.in-Ok.ensures.found read.one_owner h) shown
 
 pub returns-in-Err : goal.returns-in-Err
-returns-in-Err c =
-    let told = list_refused {X = Submission} {Y = Submission} (λ p. p) (λ fs o. PlansOperations c.args.settings.now fs o) (unfenced_list c.args.list.now) c.in-Err.fault (list_cause c.in-Err.fault) refl c.in-Err.ensures.fault in
-    IfOk-weaker c.list_fault.result _ _ (λ a h. is_refused_list (list_cause c.in-Err.fault) told h) c.list_fault.ensures
+returns-in-Err c = IfOk-weaker c.list_fault.result _ _ (λ a h. is_no_list c.in-Err.fault c.in-Err.ensures.fault h) c.list_fault.ensures

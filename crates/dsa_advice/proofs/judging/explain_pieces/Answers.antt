@@ -6,6 +6,7 @@ use Rattle.dsa_calls.specs.Judge.{JudgesPieces}
 use Rattle.dsa_calls.proofs.JudgedOnce.{one_judged_pieces, plain_judged}
 use Rattle.dsa_advice.specs.Explained.{is_refused_judge, is_judged}
 use Rattle.dsa_explain.specs.Explained.{CanBeExplained}
+use Rattle.dsa_operations.specs.declared.operation.Operation.TheVariants as operation
 use Rattle.dsa_advice.proofs.Answered.{judged_can, same_cause}
 use Rattle.dsa_advice.proofs.judging.explain_pieces.Goals as goal
 use Rattle.dsa_advice.proofs.judging.explain_pieces.Goals.{After-answer_judged, After-refuse_judged}
@@ -41,5 +42,5 @@ returns-in-Err-clause-refused c = λ fault judges.
 
 pub answer_judged-requires-clause-can : goal.answer_judged-requires-clause-can
 answer_judged-requires-clause-can c =
-    subst (λ (ds : List Descriptor). CanBeExplained c.args.settings.now ds [] c.args.plan.now) c.deref.ensures.value
+    subst (λ (ds : List Descriptor). CanBeExplained c.args.settings.now (map operation.Descriptor ds) [] c.args.plan.now) c.deref.ensures.value
     (judged_can c.deref.result.now c.args.plan.now c.args.settings.now c.in-Ok.cost c.in-Ok.ensures)

@@ -3,7 +3,7 @@ use Rattle.dsa_descriptor.specs.declared.descriptor.Descriptor.{Descriptor}
 use Rattle.dsa_calls.specs.Planned.{submission_of}
 use Rattle.dsa_lists.specs.AnyLists.{IsOfDescriptors}
 use Rattle.dsa_operations.specs.declared.operation.Operation.TheVariants as operation
-use Rattle.dsa_lists.proofs.AnyLists.{fenced_any, none_planned}
+use Rattle.dsa_lists.proofs.AnyLists.{fenced_any, fenced_cost, none_planned}
 use Rattle.dsa_lists.proofs.pieces.plan_any_pieces.Goals as goal
 use Rattle.dsa_lists.proofs.pieces.plan_any_pieces.Goals.{After-plan_ready}
 
@@ -21,3 +21,9 @@ returns-else-not-is_of_bytes-clause-found c = c.plan_ready.ensures.found (none c
 
 pub returns-else-not-is_of_bytes-clause-fault : goal.returns-else-not-is_of_bytes-clause-fault
 returns-else-not-is_of_bytes-clause-fault c = c.plan_ready.ensures.fault (none c)
+
+pub returns-in_ok-operations-in-Ok-clause-cost : goal.returns-in_ok-operations-in-Ok-clause-cost
+returns-in_ok-operations-in-Ok-clause-cost c = fenced_cost c.args.list.now c.args.settings.now (submission_of c.in-Ok.planned) c.in-Ok.ensures.answer
+
+pub returns-else-not-is_of_bytes-clause-cost : goal.returns-else-not-is_of_bytes-clause-cost
+returns-else-not-is_of_bytes-clause-cost c = c.plan_ready.ensures.cost (none c)

@@ -1,17 +1,16 @@
 use Rattle.std.proofs.Common.{map, ap, ◌∙◌}
 use Rattle.std.specs.Prelude.{string_bytes}
 use Rattle.std.proofs.lemmas.Result.{IfOk-weaker}
-use Rattle.dsa_descriptor.specs.Descriptors.{fields}
+use Rattle.dsa_operations.specs.OperationFields.{operation_fields}
 use Rattle.dsa_lines.specs.Barriers.{marked_text}
 use Rattle.dsa_text.specs.Disassembled.{is_listed, is_refused}
 use Rattle.dsa_text.proofs.disassembling.disassemble_fenced.Goals as goal
 
 pub returns-in_ok-text-in-Ok : goal.returns-in_ok-text-in-Ok
 returns-in_ok-text-in-Ok c =
-    let found = c.in-Ok.ensures.found in
-    is_listed c.in-Ok.read.descriptors.items (record { spelled = found.0; owner = found.1 }) c.done.ensures.status
+    is_listed c.in-Ok.read.entries.items c.in-Ok.ensures.found c.in-Ok.read.one_owner c.done.ensures.status
     (ap string_bytes c.done.ensures.text ∙ c.in_ok-text-in-Ok.ensures
-    ∙ (λ i. marked_text (map fields (c.deref.ensures.value i)) ((c.deref-in-Ok.ensures.value ∙ c.in-Ok.ensures.barriers) i)))
+    ∙ (λ i. marked_text (map operation_fields (c.deref.ensures.value i)) ((c.deref-in-Ok.ensures.value ∙ c.in-Ok.ensures.barriers) i)))
 
 pub returns-in-Err : goal.returns-in-Err
 returns-in-Err c =

@@ -6,16 +6,16 @@ use Rattle.dsa_text.proofs.resuming.resume_text.Goals as goal
 pub returns-in-Err : goal.returns-in-Err
 returns-in-Err c = is_no_list c.in-Err.fault c.in-Err.ensures.answer c.in_ok-text_fault-in-Err.ensures
 
-pub returns-in_ok-rest_answer-in-Ok-resume_operations : goal.returns-in_ok-rest_answer-in-Ok-resume_operations
-returns-in_ok-rest_answer-in-Ok-resume_operations c =
+pub returns-in_ok-rest_answer-in-Ok-resume_read_list : goal.returns-in_ok-rest_answer-in-Ok-resume_read_list
+returns-in_ok-rest_answer-in-Ok-resume_read_list c =
     let list = c.in-Ok.read.list in
-    has_left list.descriptors.items list.barriers.items (remainder_of c.in-Ok-resume_operations.rest)
-    (listed c.args.text.now c.args.keep_fences list.descriptors.items list.barriers.items c.in-Ok.ensures.answer list.one_owner c.in-Ok.ensures.barriers) c.in-Ok-resume_operations.ensures.answer
-    c.in_ok-rest_answer-in-Ok-resume_operations.ensures
+    has_left list.entries.items list.barriers.items (remainder_of c.in-Ok-resume_read_list.rest)
+    (listed c.args.text.now c.args.keep_fences list.entries.items list.barriers.items c.in-Ok.ensures.answer list.one_owner c.in-Ok.ensures.barriers) c.in-Ok-resume_read_list.ensures.answer
+    c.in_ok-rest_answer-in-Ok-resume_read_list.ensures
 
-pub returns-in_ok-fault_answer-in-Err-resume_operations : goal.returns-in_ok-fault_answer-in-Err-resume_operations
-returns-in_ok-fault_answer-in-Err-resume_operations c =
+pub returns-in_ok-fault_answer-in-Err-resume_read_list : goal.returns-in_ok-fault_answer-in-Err-resume_read_list
+returns-in_ok-fault_answer-in-Err-resume_read_list c =
     let list = c.in-Ok.read.list in
-    is_refused list.descriptors.items list.barriers.items c.in-Err-resume_operations.fault
-    (listed c.args.text.now c.args.keep_fences list.descriptors.items list.barriers.items c.in-Ok.ensures.answer list.one_owner c.in-Ok.ensures.barriers) c.in-Err-resume_operations.ensures.answer
-    c.in_ok-fault_answer-in-Err-resume_operations.ensures
+    is_refused list.entries.items list.barriers.items c.in-Err-resume_read_list.fault
+    (listed c.args.text.now c.args.keep_fences list.entries.items list.barriers.items c.in-Ok.ensures.answer list.one_owner c.in-Ok.ensures.barriers) c.in-Err-resume_read_list.ensures.answer
+    c.in_ok-fault_answer-in-Err-resume_read_list.ensures

@@ -1,0 +1,17 @@
+use Rattle.std.proofs.lemmas.Result.{IfOk-weaker}
+use Rattle.dsa_lists.proofs.ReadLists.{entire_is_planned, split_is_planned}
+use Rattle.dsa_lists.proofs.read_list.plan_read_list.Goals as goal
+
+pub returns-in-Some-clause-legal : goal.returns-in-Some-clause-legal
+returns-in-Some-clause-legal c =
+    let ds = c.in-Some.descriptors in
+    IfOk-weaker c.plan_split.result _ _ (λ p h. h.legal) (split_is_planned c.args.settings.now ds.descriptors.items ds.barriers.items c.plan_split.result c.plan_split.ensures)
+
+pub returns-in-Some-clause-few : goal.returns-in-Some-clause-few
+returns-in-Some-clause-few c =
+    let ds = c.in-Some.descriptors in
+    IfOk-weaker c.plan_split.result _ _ (λ p h. h.few) (split_is_planned c.args.settings.now ds.descriptors.items ds.barriers.items c.plan_split.result c.plan_split.ensures)
+
+pub returns-in-None-clause-legal : goal.returns-in-None-clause-legal
+returns-in-None-clause-legal c =
+    IfOk-weaker c.plan_entire.result _ _ (λ p h. h.legal) (entire_is_planned c.args.settings.now c.args.list.now.entries.items c.args.list.now.barriers.items c.plan_entire.result c.plan_entire.ensures)

@@ -83,7 +83,7 @@ module _ (s : RawSettings) (table words list : List ℕ) (staging : Span) (also 
 
   -- those of any other list
   pub operations_taken : (pieces : List Operation) → AreSettings staged table → ¬ IsOfDescriptors list → AreReady list (limits_of staged table) pieces
-      → (r : Result Submitted RawRefusal) → Tracked operations.owner_of operations.reads_of operations.writes_of pieces r → Answers r
+      → (r : Result Submitted RawRefusal) → Tracked trackers.operation_owner operations.reads_of operations.writes_of pieces r → Answers r
   operations_taken pieces are none ready (Ok taken) told =
       let settings = subst (λ (x : RawSettings). AreSettings x table) is are in
       let found = subst (λ (x : RawSettings). AreReady list (limits_of x table) pieces) is ready in

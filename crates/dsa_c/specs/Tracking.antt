@@ -99,19 +99,19 @@ TakesList s table words list staging also submitted new =
     ((pieces : List Descriptor) × (barriers : List Bool) × AreFencedPieces list (limits_of (staged_at s staging.first) table) pieces barriers
     × TakesPieces trackers.owner_of kinds.reads_of kinds.writes_of words pieces staging also submitted new)
     ((pieces : List Operation) × AreReady list (limits_of (staged_at s staging.first) table) pieces
-    × TakesPieces operations.owner_of operations.reads_of operations.writes_of words pieces staging also submitted new)
+    × TakesPieces trackers.operation_owner operations.reads_of operations.writes_of words pieces staging also submitted new)
 
 -- the groups of a plan of these pieces are taken one after another, and each gets the slot at its number; the other places
 -- of the array stay
 abbrev pub TakesPlan : List ℕ → List Operation → Plan → ℕ → Slots → List ℕ → List ℕ → List ℕ → Type 0
 TakesPlan words pieces plan staging also places slots new =
     IsShapedIn words × IsShapedIn new
-    × CanTakeGroups operations.owner_of (room_in words) (min (free_count (shown_in words)) (length places)) (owner_with operations.owner_of (owner_in words) pieces) pieces plan
+    × CanTakeGroups trackers.operation_owner (room_in words) (min (free_count (shown_in words)) (length places)) (owner_with trackers.operation_owner (owner_in words) pieces) pieces plan
     staging
     × (IsTracker words →
     IsTracker new
     × SubmitsInTurn (table_in words) (group_reads operations.reads_of plan pieces) (group_writes operations.writes_of staging plan pieces) also
-    (owner_with operations.owner_of (owner_in words) pieces) slots (length plan) (table_in new))
+    (owner_with trackers.operation_owner (owner_in words) pieces) slots (length plan) (table_in new))
     × ((k : ℕ) → length plan ≤ k → slice_get slots k ≡ slice_get places k)
 
 -- the groups of the plan that these bytes submit are taken
@@ -161,13 +161,13 @@ RefusesList s table words list staging r =
     ((pieces : List Descriptor) × (barriers : List Bool) × AreFencedPieces list (limits_of (staged_at s staging.first) table) pieces barriers
     × RefusesAsTracked trackers.owner_of words pieces staging r)
     ((pieces : List Operation) × AreReady list (limits_of (staged_at s staging.first) table) pieces
-    × RefusesAsTracked operations.owner_of words pieces staging r))
+    × RefusesAsTracked trackers.operation_owner words pieces staging r))
 
 -- the tracker refuses the groups of a plan of these pieces
 abbrev pub RefusesPlan : List ℕ → List Operation → Plan → ℕ → ℕ → WordsFault → Type 0
 RefusesPlan words pieces plan staging places fault =
     RefusesIn words fault
-    (IsGroupsFault operations.owner_of (room_in words) (min (free_count (shown_in words)) places) (owner_with operations.owner_of (owner_in words) pieces) pieces plan staging)
+    (IsGroupsFault trackers.operation_owner (room_in words) (min (free_count (shown_in words)) places) (owner_with trackers.operation_owner (owner_in words) pieces) pieces plan staging)
 
 -- the numbers are no settings, an allocation failed, the bytes are no emission, with their first fault, or the tracker
 -- refuses the groups that they submit

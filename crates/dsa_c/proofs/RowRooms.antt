@@ -10,12 +10,14 @@ use Rattle.dsa_descriptor.specs.Fields.{Fields}
 use Rattle.dsa_image.specs.Lines.{quotient_up}
 use Rattle.dsa_image.proofs.Rounds.{parts_reach}
 use Rattle.dsa_plan.specs.Settings.{Limits}
-use Rattle.dsa_plan.specs.Plan.{piece_count}
+use Rattle.dsa_operations.specs.declared.operation.Operation.{Operation}
+use Rattle.dsa_operations.specs.declared.operation.Operation.TheVariants as operation
+use Rattle.dsa_plan.specs.Plan.{Plan, piece_count}
 use Rattle.dsa_splitter.specs.Pieces.{all_pieces}
 use Rattle.dsa_splitter.specs.Rules.{piece_total}
 use Rattle.dsa_splitter.proofs.Walks.{length_all}
 use Rattle.dsa_calls.specs.Planned.{Submission}
-use Rattle.dsa_prepared.specs.Preparing.{IsCostedOf}
+use Rattle.dsa_prepared.specs.Preparing.{IsAnyCostedOf}
 use Rattle.dsa_prepared.specs.Rows.{entry_row, region_rows_of, rows_of, tie_row}
 use Rattle.dsa_prepared.specs.Templates.{Template, template_of, units_of}
 use Rattle.dsa_prepared.proofs.SoundTemplates.{few_entries, few_ties}
@@ -71,18 +73,24 @@ rows_of_parts rs t operations pieces regions ties more portal staging =
       length-append regions_of (tie_rows ++ (portal_rows ++ staging_rows)),
     )
 
+few_of_template : (rs : List Span) (operations pieces : List Operation) (plan : Plan) → piece_count plan ≡ length pieces → length operations ≤ length pieces
+    → length (rows_of (template_of rs operations plan pieces)) ≤ prepared_room (length rs) (length pieces)
+few_of_template rs operations pieces plan covers more =
+    let entries = few_entries rs plan pieces covers in
+    rows_of_parts rs (template_of rs operations plan pieces) (length operations) (length pieces) (few_regions rs (units_of rs operations)) (few_ties rs operations) more entries.0 entries.1
+
 few_kept : (s : Limits) (rs : List Span) (ds : List Descriptor) (p : Submission) (t : Template) → 8 ≤ s.greatest_transfer → map fields p.pieces ≡ all_pieces (map fields ds) s.greatest_transfer
-    → piece_count p.plan ≡ length p.pieces → t ≡ template_of rs (map fields ds) p.plan (map fields p.pieces) → length (rows_of t) ≤ prepared_room (length rs) t.pieces
+    → piece_count p.plan ≡ length p.pieces → t ≡ template_of rs (map operation.Descriptor ds) p.plan (map operation.Descriptor p.pieces) → length (rows_of t) ≤ prepared_room (length rs) t.pieces
 few_kept s rs ds p t least are covers is =
-    let fs = map fields p.pieces in
     let pos : 0 < s.greatest_transfer = omega (arith, least) in
-    let entries = few_entries rs p.plan fs (omega (arith, covers, length-map p.pieces fields)) in
-    let counted : length ds ≤ length fs = omega (arith, many_pieces ds s.greatest_transfer pos, length_all (map fields ds) s.greatest_transfer, ap length are) in
-    let whole = template_of rs (map fields ds) p.plan fs in
-    let rows : length (rows_of whole) ≤ prepared_room (length rs) (length fs) =
-    rows_of_parts rs whole (length ds) (length fs) (few_regions rs (units_of rs (map fields ds))) (omega (arith, few_ties rs (map fields ds), length-map ds fields)) counted entries.0 entries.1 in
+    let count = length-map p.pieces operation.Descriptor in
+    let more : length ds ≤ length p.pieces = omega (arith, many_pieces ds s.greatest_transfer pos, length_all (map fields ds) s.greatest_transfer, ap length are, length-map p.pieces fields) in
+    let rows = few_of_template rs (map operation.Descriptor ds) (map operation.Descriptor p.pieces) p.plan (omega (arith, covers, count)) (omega (arith, more, count, length-map ds operation.Descriptor)) in
     subst (λ (x : Template). length (rows_of x) ≤ prepared_room (length rs) x.pieces) (sym is) rows
 
-pub few_rows : (list : List ℕ) (s : Limits) (rs : List Span) (ds : List Descriptor) (t : Template) (cost : ℕ) → IsCostedOf list s rs ds t cost
+pub few_rows : (list : List ℕ) (s : Limits) (rs : List Span) (operations : List Operation) (t : Template) (cost : ℕ) → IsAnyCostedOf list s rs operations t cost
     → length (rows_of t) ≤ prepared_room (length rs) t.pieces
-few_rows list s rs ds t cost (h, is) = few_kept s rs ds h.submission t h.limits.least_transfer h.planned.pieces_are h.planned.of_pieces.chosen.has_plan.covers h.template
+few_rows list s rs operations t cost (inl (of, (ds, (h, is), are))) = few_kept s rs ds h.submission t h.kept.limits.least_transfer h.planned.pieces_are h.planned.of_pieces.chosen.has_plan.covers h.kept.template
+few_rows list s rs operations t cost (inr (none, (h, is))) =
+    subst (λ (x : Template). length (rows_of x) ≤ prepared_room (length rs) x.pieces) (sym h.kept.template)
+    (few_of_template rs operations operations h.submission.plan h.planned.chosen.has_plan.covers (omega arith))

@@ -1,16 +1,16 @@
 -- What preparing into an array of the caller and filling from it promise.
 use Rattle.std.specs.Prelude.{◌≡◌, ◌⊎◌, ℕ, ◌+◌, ◌*◌, ◌<◌, ◌≤◌, List, length, slice_index_or}
-use Rattle.dsa_descriptor.specs.declared.descriptor.Descriptor.{Descriptor}
 use Rattle.dsa_descriptor.specs.declared.span.Span.{Span}
 use Rattle.dsa_descriptor.specs.Causes.{index_list}
 use Rattle.dsa_calls.specs.declared.fault.PlanFault.TheVariants.{Memory}
+use Rattle.dsa_operations.specs.declared.operation.Operation.{Operation}
 use Rattle.dsa_prepared.specs.declared.fault.PrepareFault.{PrepareFault}
 use Rattle.dsa_prepared.specs.declared.fault.PrepareFault.TheVariants.{Plan, RegionWrap, RegionOrder, Outside}
 use Rattle.dsa_prepared.specs.declared.fault.FillFault.{FillFault}
 use Rattle.dsa_prepared.specs.declared.row.Row.{Row}
 use Rattle.dsa_prepared.specs.Causes.{fill_number, fill_indices}
 use Rattle.dsa_prepared.specs.Filling.{CanFill, IsFirstFillFault}
-use Rattle.dsa_prepared.specs.Preparing.{IsCostedOf, IsFirstPrepareFault}
+use Rattle.dsa_prepared.specs.Preparing.{IsAnyCostedOf, IsFirstAnyPrepareFault}
 use Rattle.dsa_prepared.specs.Rows.{ArePrepared, rows_of, template_in}
 use Rattle.dsa_prepared.specs.Templates.{Template, filled_portal, filled_staging}
 use Rattle.dsa_c.specs.declared.preparing.RawInfo.{RawInfo}
@@ -50,11 +50,11 @@ info_of t cost =
     }
 
 -- the list, whose fences are barriers, is prepared as this template: the bytes without their fences spell these operations,
--- and the plan costs this
+-- which may be checksums, and the plan costs this
 pub record IsPreparedFor (s : RawSettings) (table list : List ℕ) (regions : List Span) (t : Template) (cost : ℕ) : Type 0 where
   pub settings : AreSettings s table
-  pub operations : List Descriptor
-  pub prepared : IsCostedOf list (limits_of s table) regions operations t cost
+  pub operations : List Operation
+  pub prepared : IsAnyCostedOf list (limits_of s table) regions operations t cost
 
 -- the rows of the prepared list are at the front of the array, whose rest is unchanged; reading them gives the template, and
 -- they can be filled
@@ -74,7 +74,7 @@ abbrev pub RefusesPrepare : RawSettings → List ℕ → List ℕ → List Span 
 RefusesPrepare s table list regions room r =
     RefusesSettings s table r
     ⊎ ((r ≡ refusal_of Memory) × AreSettings s table)
-    ⊎ ((fault : PrepareFault) × AreSettings s table × IsFirstPrepareFault list (limits_of s table) regions fault × (r ≡ prepare_refusal_of fault))
+    ⊎ ((fault : PrepareFault) × AreSettings s table × IsFirstAnyPrepareFault list (limits_of s table) regions fault × (r ≡ prepare_refusal_of fault))
     ⊎ ((t : Template) × (cost : ℕ) × IsPreparedFor s table list regions t cost × (room < length (rows_of t)) × (r ≡ no_room_for_rows (length (rows_of t))))
 
 -- ---- filling

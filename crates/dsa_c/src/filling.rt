@@ -2,9 +2,10 @@
 
 ghost use Rattle.std.specs.Prelude.{◌≡◌, ◌≢◌, ℕ, ◌<◌, List, length};
 ghost use Rattle.dsa_descriptor.specs.declared.descriptor.Descriptor.{Descriptor};
+ghost use Rattle.dsa_operations.specs.declared.operation.Operation.{Operation};
 ghost use Rattle.dsa_plan.specs.Settings.{Limits};
-ghost use Rattle.dsa_prepared.specs.Filling.{IsPlannedInto};
-ghost use Rattle.dsa_prepared.specs.Preparing.{IsPreparedOf};
+ghost use Rattle.dsa_prepared.specs.Filling.{IsAnyPlannedInto, IsPlannedInto};
+ghost use Rattle.dsa_prepared.specs.Preparing.{IsAnyPreparedOf, IsPreparedOf};
 ghost use Rattle.dsa_prepared.specs.Rows.{template_in};
 ghost use Rattle.dsa_c.specs.declared.refusal.RawRefusal.{RawRefusal};
 ghost use Rattle.dsa_c.specs.Preparing.{IsFilledInto, RefusesFill, fill_refusal_of};
@@ -45,6 +46,11 @@ pub extern "C" fn dsa_fill(
         IsPreparedOf list s (template_in rows.now).regions ds (template_in rows.now) →
         result ≡ 0 → IsPlannedInto (template_in rows.now).regions bases.now staging s list ds
         portal.old portal.new area.old area.new }
+    // The same of a list that may have checksums.
+    ensures planned_any { (list : List ℕ) (s : Limits) (operations : List Operation) →
+        IsAnyPreparedOf list s (template_in rows.now).regions operations (template_in rows.now) →
+        result ≡ 0 → IsAnyPlannedInto (template_in rows.now).regions bases.now staging s list
+        operations portal.old portal.new area.old area.new }
     // A refusal is the first cause, and if there is a cause, it is the answer.
     ensures refused { result ≢ 0 → (result ≡ refusal.new.number)
         × RefusesFill rows.now bases.now staging (length portal.old) (length area.old) refusal.new }

@@ -11,7 +11,7 @@ use crate::refusal::{RawRefusal, refusal, refusal_at};
 use crate::settings::{RawSettings, settings_of, settings_refusal};
 use dsa_descriptor::Span;
 use dsa_plan::Settings;
-use dsa_prepared::{Costed, PrepareFault, Row, prepare};
+use dsa_prepared::{Costed, PrepareFault, Row, prepare_any_list};
 use std::alloc::Global;
 
 /// The number of the refusal of an array that is too small for the rows.
@@ -74,7 +74,7 @@ fn prepare_under(
         (λ r. (0 < r.number)
         × RefusesPrepare raw table list.now regions.now room r) }
 {
-    match prepare(alloc, list, settings, regions) {
+    match prepare_any_list(alloc, list, settings, regions) {
         Ok(costed) => {
             let rows = costed.prepared.as_rows().len();
             if rows <= room {

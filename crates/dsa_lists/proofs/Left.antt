@@ -49,7 +49,7 @@ use Rattle.dsa_lists.proofs.Ready.{one_operations, ready_not_refused}
 
 -- ---- what is left of descriptors
 
-spelt_alike : (ds : List Descriptor) → flat_map spelling_of (map operation.Descriptor ds) ≡ flat_map spelt ds
+pub spelt_alike : (ds : List Descriptor) → flat_map spelling_of (map operation.Descriptor ds) ≡ flat_map spelt ds
 spelt_alike [] = refl
 spelt_alike (d ∷ ds) = ap (λ (bytes : List ℕ). spelling (fields d) ++ bytes) (spelt_alike ds)
 
@@ -98,7 +98,7 @@ kinds (operation.Checksum c ∷ os) = inr other
     other (e ∷ ds) is = absurd cc
 
 -- bytes that spell operations that are not all descriptors are no list of descriptors
-no_list : (bytes : List ℕ) (os : List Operation) → unfenced_list bytes ≡ flat_map spelling_of os → ((ds : List Descriptor) → os ≡ map operation.Descriptor ds → ⊥) → ¬ IsOfDescriptors bytes
+pub no_list : (bytes : List ℕ) (os : List Operation) → unfenced_list bytes ≡ flat_map spelling_of os → ((ds : List Descriptor) → os ≡ map operation.Descriptor ds → ⊥) → ¬ IsOfDescriptors bytes
 no_list bytes os spelled none (ds, listed) =
     none ds (one_operations bytes (map operation.Descriptor ds) os (listed.spelled ∙ list_is ds ∙ sym (spelt_alike ds)) spelled)
 

@@ -8,16 +8,17 @@ use Rattle.dsa_descriptor.specs.declared.op.Op.{Op}
 use Rattle.dsa_descriptor.specs.declared.op.Op.TheVariants.{Move, Fill, Compare, ComparePattern, ApplyDelta, Dualcast}
 use Rattle.dsa_descriptor.specs.declared.span.Span.{Span}
 use Rattle.dsa_descriptor.specs.Data.{targets}
-use Rattle.dsa_descriptor.specs.Fields.{Fields}
-use Rattle.dsa_descriptor.specs.Profile.{HasDeltaUnits, HasEqualLowBits, IsListed}
+use Rattle.dsa_descriptor.specs.Profile.{HasDeltaUnits, HasEqualLowBits}
 use Rattle.dsa_descriptor.specs.Spans.{InSome, span}
+use Rattle.dsa_operations.specs.declared.operation.Operation.{Operation}
+use Rattle.dsa_operations.specs.declared.operation.Operation.TheVariants as operation
 use Rattle.dsa_prepared.specs.Relocated.{relocated_op}
-use Rattle.dsa_prepared.specs.Regions.{relocated, LiesInOne, LieInOne}
-use Rattle.dsa_prepared.specs.Listed.{HasAlignedDelta, IsAlignedAt}
+use Rattle.dsa_prepared.specs.Regions.{relocated, AllPiecesLie, LiesInOne, PieceLies}
+use Rattle.dsa_prepared.specs.Listed.{HasAlignedDelta, IsAlignedThere}
 use Rattle.dsa_prepared.specs.declared.tie.Tie.{Tie}
 use Rattle.dsa_prepared.specs.Entries.{place_in}
 use Rattle.dsa_prepared.specs.Sound.{IsUnit, AreUnits}
-use Rattle.dsa_prepared.specs.Templates.{raised, op_asked, asked, units_from, op_ties, ties_of}
+use Rattle.dsa_prepared.specs.Templates.{raised, op_asked, asked, units_from, op_ties, tied, ties_of}
 use Rattle.dsa_prepared.specs.Preparing.{region_at, relocation}
 use Rattle.dsa_prepared.specs.Filling.{AllBelow, IsAlignedBase, IsTied, IsTiedAt}
 use Rattle.dsa_prepared.proofs.Words.{address_goes, first_has}
@@ -91,25 +92,37 @@ op_keeps rs us (ComparePattern src pattern expected) i lt = omega arith
 op_keeps rs us (ApplyDelta delta dst record_size) i lt = raised_keeps us (place_in rs dst).0 8 i lt
 op_keeps rs us (Dualcast src dst dst2) i lt = omega arith
 
-length-asked : (rs : List Span) (us : List ℕ) (f : Fields) → length (asked rs us f) ≡ length us
-length-asked rs us f = op_length rs (raised us (place_in rs f.record_at).0 32) f.op ∙ length-raised us (place_in rs f.record_at).0 32
+length-asked : (rs : List Span) (us : List ℕ) (o : Operation) → length (asked rs us o) ≡ length us
+length-asked rs us (operation.Descriptor d) = op_length rs (raised us (place_in rs d.record_at).0 32) d.op ∙ length-raised us (place_in rs d.record_at).0 32
+length-asked rs us (operation.Checksum c) = length-raised us (place_in rs c.record_at).0 32
 
-pub length-units : (rs : List Span) (us : List ℕ) (fs : List Fields) → length (units_from rs us fs) ≡ length us
-length-units rs us [] = refl
-length-units rs us (f ∷ fs) = length-units rs (asked rs us f) fs ∙ length-asked rs us f
+asked_units : (rs : List Span) (us : List ℕ) (o : Operation) → AreUnits us → AreUnits (asked rs us o)
+asked_units rs us (operation.Descriptor d) all =
+    op_units rs (raised us (place_in rs d.record_at).0 32) d.op (raised_units us (place_in rs d.record_at).0 32 all (inr (inr refl)))
+asked_units rs us (operation.Checksum c) all = raised_units us (place_in rs c.record_at).0 32 all (inr (inr refl))
 
-pub units_are : (rs : List Span) (us : List ℕ) (fs : List Fields) → AreUnits us → AreUnits (units_from rs us fs)
-units_are rs us [] all = all
-units_are rs us (f ∷ fs) all = units_are rs (asked rs us f) fs (op_units rs (raised us (place_in rs f.record_at).0 32) f.op (raised_units us (place_in rs f.record_at).0 32 all (inr (inr refl))))
-
-units_keep : (rs : List Span) (us : List ℕ) (fs : List Fields) (i : ℕ) → i < length us → slice_index us i ≤ slice_index (units_from rs us fs) i
-units_keep rs us [] i lt = omega arith
-units_keep rs us (f ∷ fs) i lt =
-    let r : ℕ = (place_in rs f.record_at).0 in
+asked_keeps : (rs : List Span) (us : List ℕ) (o : Operation) (i : ℕ) → i < length us → slice_index us i ≤ slice_index (asked rs us o) i
+asked_keeps rs us (operation.Descriptor d) i lt =
+    let r : ℕ = (place_in rs d.record_at).0 in
     let a = raised_keeps us r 32 i lt in
-    let b = op_keeps rs (raised us r 32) f.op i (omega (arith, lt, length-raised us r 32)) in
-    let c = units_keep rs (asked rs us f) fs i (omega (arith, lt, length-asked rs us f)) in
-    omega (arith, a, b, c)
+    let b = op_keeps rs (raised us r 32) d.op i (omega (arith, lt, length-raised us r 32)) in
+    omega (arith, a, b)
+asked_keeps rs us (operation.Checksum c) i lt = raised_keeps us (place_in rs c.record_at).0 32 i lt
+
+pub length-units : (rs : List Span) (us : List ℕ) (os : List Operation) → length (units_from rs us os) ≡ length us
+length-units rs us [] = refl
+length-units rs us (o ∷ os) = length-units rs (asked rs us o) os ∙ length-asked rs us o
+
+pub units_are : (rs : List Span) (us : List ℕ) (os : List Operation) → AreUnits us → AreUnits (units_from rs us os)
+units_are rs us [] all = all
+units_are rs us (o ∷ os) all = units_are rs (asked rs us o) os (asked_units rs us o all)
+
+units_keep : (rs : List Span) (us : List ℕ) (os : List Operation) (i : ℕ) → i < length us → slice_index us i ≤ slice_index (units_from rs us os) i
+units_keep rs us [] i lt = omega arith
+units_keep rs us (o ∷ os) i lt =
+    let b = asked_keeps rs us o i lt in
+    let c = units_keep rs (asked rs us o) os i (omega (arith, lt, length-asked rs us o)) in
+    omega (arith, b, c)
 
 -- the units are at least what the operation asks for
 abbrev pub OpAsks : List Span → List ℕ → Op → Type 0
@@ -120,8 +133,9 @@ OpAsks rs us (ComparePattern src pattern expected) = ⊤
 OpAsks rs us (ApplyDelta delta dst record_size) = 8 ≤ slice_index us (place_in rs dst).0
 OpAsks rs us (Dualcast src dst dst2) = ⊤
 
-abbrev pub Asks : List Span → List ℕ → Fields → Type 0
-Asks rs us f = (32 ≤ slice_index us (place_in rs f.record_at).0) × OpAsks rs us f.op
+abbrev pub Asks : List Span → List ℕ → Operation → Type 0
+Asks rs us (operation.Descriptor d) = (32 ≤ slice_index us (place_in rs d.record_at).0) × OpAsks rs us d.op
+Asks rs us (operation.Checksum c) = 32 ≤ slice_index us (place_in rs c.record_at).0
 
 module _ (rs : List Span) where
   delta_asked : (us : List ℕ) (dst : ℕ) → length us ≡ length rs → InSome rs dst → 8 ≤ slice_index (raised us (place_in rs dst).0 8) (place_in rs dst).0
@@ -140,20 +154,32 @@ module _ (rs : List Span) where
       omega (arith, delta_asked us dst count here, keep (place_in rs dst).0 (omega (arith, p.region, count)))
   op_has us us' (Dualcast src dst dst2) size count t keep = tt
 
-  pub all_ask : (us : List ℕ) (fs : List Fields) → length us ≡ length rs → AllByRecursion (LieInOne rs) fs → AllByRecursion (Asks rs (units_from rs us fs)) fs
-  all_ask us [] count lie = tt
-  all_ask us (f ∷ fs) count lie =
-      let r : ℕ = (place_in rs f.record_at).0 in
-      let here = place_holds rs f.record_at (first_has rs (span f.record_at 32) lie.0.1.0) in
+  -- a record's region has its unit, and units after that are no lower
+  record_asks : (us us' : List ℕ) (a : ℕ) → length us ≡ length rs → LiesInOne rs (span a 32) →
+      ((i : ℕ) → i < length us → slice_index (raised us (place_in rs a).0 32) i ≤ slice_index us' i) → 32 ≤ slice_index us' (place_in rs a).0
+  record_asks us us' a count lies keep =
+      let r : ℕ = (place_in rs a).0 in
+      let here = place_holds rs a (first_has rs (span a 32) lies) in
       let inside : r < length us = omega (arith, here.region, count) in
-      let more = raised_same us r 32 inside in
+      omega (arith, raised_same us r 32 inside, keep r inside)
+
+  one_asks : (us us' : List ℕ) (o : Operation) → length us ≡ length rs → PieceLies rs o → ((i : ℕ) → i < length us → slice_index (asked rs us o) i ≤ slice_index us' i) → Asks rs us' o
+  one_asks us us' (operation.Descriptor d) count lie keep =
+      let r : ℕ = (place_in rs d.record_at).0 in
       let long = length-raised us r 32 in
-      let kept = op_keeps rs (raised us r 32) f.op r (omega (arith, inside, long)) in
-      let last = units_keep rs (asked rs us f) fs r (omega (arith, inside, length-asked rs us f)) in
-      let later : (i : ℕ) → i < length (raised us r 32) → slice_index (op_asked rs (raised us r 32) f.op) i ≤ slice_index (units_from rs us (f ∷ fs)) i =
-      λ i lt. units_keep rs (asked rs us f) fs i (omega (arith, lt, length-asked rs us f, long)) in (
-        (omega (arith, more, kept, last), op_has (raised us r 32) (units_from rs us (f ∷ fs)) f.op f.size (omega (arith, count, long)) lie.0.1.1 later),
-        all_ask (asked rs us f) fs (omega (arith, count, length-asked rs us f)) lie.1,
+      let kept : (i : ℕ) → i < length us → slice_index (raised us r 32) i ≤ slice_index us' i =
+      λ i lt. omega (arith, op_keeps rs (raised us r 32) d.op i (omega (arith, lt, long)), keep i lt) in
+      let later : (i : ℕ) → i < length (raised us r 32) → slice_index (op_asked rs (raised us r 32) d.op) i ≤ slice_index us' i =
+      λ i lt. keep i (omega (arith, lt, long)) in
+      (record_asks us us' d.record_at count lie.1.0 kept, op_has (raised us r 32) us' d.op d.size (omega (arith, count, long)) lie.1.1 later)
+  one_asks us us' (operation.Checksum c) count lie keep = record_asks us us' c.record_at count lie.1.0 keep
+
+  pub all_ask : (us : List ℕ) (os : List Operation) → length us ≡ length rs → AllPiecesLie rs os → AllByRecursion (Asks rs (units_from rs us os)) os
+  all_ask us [] count lie = tt
+  all_ask us (o ∷ os) count lie =
+      let long = length-asked rs us o in (
+        one_asks us (units_from rs us (o ∷ os)) o count lie.0 (λ i lt. units_keep rs (asked rs us o) os i (omega (arith, lt, long))),
+        all_ask (asked rs us o) os (omega (arith, count, long)) lie.1,
       )
 
 -- ---- what bases keep
@@ -216,13 +242,14 @@ module _ (rs : List Span) (us bases : List ℕ) (count : length bases ≡ length
       let b = address_goes rs bases 0 dst2 count (first_has rs (span dst2 size) t.1.0) in
       ap (λ (x : ℕ). x % 2 ^ 12) a ∙ tied.0 ∙ sym (ap (λ (x : ℕ). x % 2 ^ 12) b)
 
-  pub one_aligned : (f : Fields) → IsListed f → LieInOne rs f → Asks rs us f → AllByRecursion (IsTied bases) (op_ties rs f.op) → IsAlignedAt (relocated (relocation rs bases)) f
-  one_aligned f listed lie asks tied =
+  pub one_aligned : (o : Operation) → PieceLies rs o → Asks rs us o → AllByRecursion (IsTied bases) (tied rs o) → IsAlignedThere (relocated (relocation rs bases)) o
+  one_aligned (operation.Descriptor d) lie asks ties =
       record {
-        record_aligned = record_kept f.record_at (first_has rs (span f.record_at 32) lie.1.0) asks.0 listed.record_aligned;
-        delta_aligned = op_delta f.op f.size lie.1.1 asks.1 listed.delta_units;
-        low_bits = op_low f.op f.size lie.1.1 tied;
+        record_aligned = record_kept d.record_at (first_has rs (span d.record_at 32) lie.1.0) asks.0 d.listed.record_aligned;
+        delta_aligned = op_delta d.op d.size lie.1.1 asks.1 d.listed.delta_units;
+        low_bits = op_low d.op d.size lie.1.1 ties;
       }
+  one_aligned (operation.Checksum c) lie asks ties = record_kept c.record_at (first_has rs (span c.record_at 32) lie.1.0) asks c.listed.record_aligned
 
 -- ---- ties one by one
 
@@ -238,11 +265,11 @@ pub all_tied : (ties : List Tie) (bases : List ℕ) → AllBelow (length ties) (
 all_tied [] bases each = tt
 all_tied (tie ∷ ties) bases each = (each 0 (omega arith), all_tied ties bases (λ i lt. each (suc i) (omega (arith, lt))))
 
-pub tied_each : (rs : List Span) (bases : List ℕ) (fs : List Fields) → AllByRecursion (IsTied bases) (ties_of rs fs) → AllByRecursion (λ f. AllByRecursion (IsTied bases) (op_ties rs f.op)) fs
+pub tied_each : (rs : List Span) (bases : List ℕ) (os : List Operation) → AllByRecursion (IsTied bases) (ties_of rs os) → AllByRecursion (λ o. AllByRecursion (IsTied bases) (tied rs o)) os
 tied_each rs bases [] all = tt
-tied_each rs bases (f ∷ fs) all = (
-  all_front (IsTied bases) (op_ties rs f.op) (ties_of rs fs) all,
-  tied_each rs bases fs (all_back (IsTied bases) (op_ties rs f.op) (ties_of rs fs) all),
+tied_each rs bases (o ∷ os) all = (
+  all_front (IsTied bases) (tied rs o) (ties_of rs os) all,
+  tied_each rs bases os (all_back (IsTied bases) (tied rs o) (ties_of rs os) all),
 )
 
 pub ones_are : (n : ℕ) → AreUnits (replicate n 1)

@@ -1,6 +1,6 @@
--- Relocated descriptors conflict exactly where they did.
+-- Relocated pieces conflict exactly if they did.
 use Rattle.std.proofs.Common.{◌≡◌, ℕ, zero, suc, inl, inr, Option, Some, None, List, [], ◌∷◌, map, option_map, refl, sym, ap, subst, ◌∙◌}
-use Rattle.std.specs.Prelude.{◌↔◌, slice_get}
+use Rattle.std.specs.Prelude.{◌↔◌, ⊤, slice_get}
 use Rattle.std.specs.List.{AllByRecursion}
 use Rattle.std.proofs.lemmas.Option.{slice_get-map, same_Some}
 use Rattle.dsa_descriptor.specs.declared.op.Op.{Op}
@@ -9,6 +9,7 @@ use Rattle.dsa_descriptor.specs.declared.span.Span.{Span}
 use Rattle.dsa_descriptor.specs.Fields.{Fields}
 use Rattle.dsa_descriptor.specs.Data.{sources, targets}
 use Rattle.dsa_descriptor.specs.Spans.{InSome}
+use Rattle.dsa_ranges.specs.Pieces.{PieceConflictAt}
 use Rattle.dsa_ranges.specs.Ranges.{read_spans, written_spans, WritesInto, SpansConflict, Conflicts, ConflictAt}
 use Rattle.dsa_prepared.specs.Relocated.{relocated_op, relocated_fields, relocated_span, IsOneToOne, KeepsOffsets, SpansKeepOffsets, AllKeepOffsets}
 use Rattle.dsa_prepared.proofs.RelocatedSpans.{some_go, some_come}
@@ -53,39 +54,93 @@ into_come In to writes reads writes' apart w r w' (b, here, inr there) =
     let same : d.0 ≡ c.0 = apart d.0 c.0 d.2 c.2 (d.3 ∙ sym c.3) in
     (c.0, c.1, inr (subst (λ (x : ℕ). InSome writes' x) same d.1))
 
--- the relocated spans of both, in place of those of the relocated descriptors
-abbrev SpansRelocated : (ℕ → ℕ) → Fields → Fields → Type 0
-SpansRelocated to f g =
-    SpansConflict (map (relocated_span to) (read_spans f)) (map (relocated_span to) (written_spans f)) (map (relocated_span to) (read_spans g)) (map (relocated_span to) (written_spans g))
+-- ---- two that read and write spans, and where these go
 
-conflicts_are : (to : ℕ → ℕ) (f g : Fields) → Conflicts (relocated_fields to f) (relocated_fields to g) ≡ SpansRelocated to f g
-conflicts_are to f g =
-    λ i. SpansConflict (reads_relocate to f i) (writes_relocate to f i) (reads_relocate to g i) (writes_relocate to g i)
+module _ (In : ℕ → Type 0) (to : ℕ → ℕ) (reads writes reads' writes' : List Span) (r : AllByRecursion (KeepsOffsets In to) reads) (w : AllByRecursion (KeepsOffsets In to) writes)
+    (r' : AllByRecursion (KeepsOffsets In to) reads') (w' : AllByRecursion (KeepsOffsets In to) writes') where
+  abbrev SpansRelocated : Type 0
+  SpansRelocated = SpansConflict (map (relocated_span to) reads) (map (relocated_span to) writes) (map (relocated_span to) reads') (map (relocated_span to) writes')
 
-pub conflict_goes : (In : ℕ → Type 0) (to : ℕ → ℕ) (f g : Fields) → IsOneToOne In to → SpansKeepOffsets In to f → SpansKeepOffsets In to g → Conflicts f g → Conflicts (relocated_fields to f) (relocated_fields to g)
-conflict_goes In to f g apart m n (inl h) =
-    let there : SpansRelocated to f g = inl (into_go In to (written_spans f) (read_spans g) (written_spans g) m.1 n.0 n.1 h) in
-    subst (λ (X : Type 0). X) (sym (conflicts_are to f g)) there
-conflict_goes In to f g apart m n (inr h) =
-    let there : SpansRelocated to f g = inr (into_go In to (written_spans g) (read_spans f) (written_spans f) n.1 m.0 m.1 h) in
-    subst (λ (X : Type 0). X) (sym (conflicts_are to f g)) there
+  conflict_goes : SpansConflict reads writes reads' writes' → SpansRelocated
+  conflict_goes (inl h) = inl (into_go In to writes reads' writes' w r' w' h)
+  conflict_goes (inr h) = inr (into_go In to writes' reads writes w' r w h)
 
-back : (In : ℕ → Type 0) (to : ℕ → ℕ) (f g : Fields) → IsOneToOne In to → SpansKeepOffsets In to f → SpansKeepOffsets In to g → SpansRelocated to f g → Conflicts f g
-back In to f g apart m n (inl h) = inl (into_come In to (written_spans f) (read_spans g) (written_spans g) apart m.1 n.0 n.1 h)
-back In to f g apart m n (inr h) = inr (into_come In to (written_spans g) (read_spans f) (written_spans f) apart n.1 m.0 m.1 h)
+  conflict_comes : IsOneToOne In to → SpansRelocated → SpansConflict reads writes reads' writes'
+  conflict_comes apart (inl h) = inl (into_come In to writes reads' writes' apart w r' w' h)
+  conflict_comes apart (inr h) = inr (into_come In to writes' reads writes apart w' r w h)
 
-pub conflict_comes : (In : ℕ → Type 0) (to : ℕ → ℕ) (f g : Fields) → IsOneToOne In to → SpansKeepOffsets In to f → SpansKeepOffsets In to g → Conflicts (relocated_fields to f) (relocated_fields to g) → Conflicts f g
-conflict_comes In to f g apart m n h = back In to f g apart m n (subst (λ (X : Type 0). X) (conflicts_are to f g) h)
+-- ---- two lists, in which the spans of the second are the relocated spans of the first
+
+-- each two at the same place are related
+abbrev pub AllPaired : {X Y : Type 0} → (X → Y → Type 0) → List X → List Y → Type 0
+AllPaired R [] [] = ⊤
+AllPaired R [] (y ∷ ys) = ⊥
+AllPaired R (x ∷ xs) [] = ⊥
+AllPaired R (x ∷ xs) (y ∷ ys) = R x y × AllPaired R xs ys
+
+pub paired_there : {X Y : Type 0} (R : X → Y → Type 0) (xs : List X) (ys : List Y) (i : ℕ) (x : X) → AllPaired R xs ys → slice_get xs i ≡ Some x → (y : Y) × (slice_get ys i ≡ Some y) × R x y
+paired_there R [] ys i x all there = absurd cc
+paired_there R (x' ∷ xs) [] i x all there = absurd all
+paired_there {X} R (x' ∷ xs) (y ∷ ys) zero x all there = (y, refl, subst (λ (z : X). R z y) (same_Some x' x there) all.0)
+paired_there R (x' ∷ xs) (y ∷ ys) (suc i) x all there = paired_there R xs ys i x all.1 there
+
+pub paired_back : {X Y : Type 0} (R : X → Y → Type 0) (xs : List X) (ys : List Y) (i : ℕ) (y : Y) → AllPaired R xs ys → slice_get ys i ≡ Some y → (x : X) × (slice_get xs i ≡ Some x) × R x y
+paired_back R xs [] i y all there = absurd cc
+paired_back R [] (y' ∷ ys) i y all there = absurd all
+paired_back {X} {Y} R (x ∷ xs) (y' ∷ ys) zero y all there = (x, refl, subst (λ (z : Y). R x z) (same_Some y' y there) all.0)
+paired_back R (x ∷ xs) (y' ∷ ys) (suc i) y all there = paired_back R xs ys i y all.1 there
+
+module _ (X Y : Type 0) (reads writes : X → List Span) (reads' writes' : Y → List Span) (In : ℕ → Type 0) (to : ℕ → ℕ) (apart : IsOneToOne In to) where
+  -- what the second reads and writes is where that of the first goes
+  abbrev pub Goes : X → Y → Type 0
+  Goes x y = (reads' y ≡ map (relocated_span to) (reads x)) × (writes' y ≡ map (relocated_span to) (writes x))
+
+  abbrev pub Keeps : X → Type 0
+  Keeps x = AllByRecursion (KeepsOffsets In to) (reads x) × AllByRecursion (KeepsOffsets In to) (writes x)
+
+  two_go : (p q : X) (p' q' : Y) → Keeps p → Keeps q → Goes p p' → Goes q q' → SpansConflict (reads p) (writes p) (reads q) (writes q) → SpansConflict (reads' p') (writes' p') (reads' q') (writes' q')
+  two_go p q p' q' k l g h c =
+      subst (λ (T : Type 0). T) (λ i. SpansConflict (sym g.0 i) (sym g.1 i) (sym h.0 i) (sym h.1 i))
+      (conflict_goes In to (reads p) (writes p) (reads q) (writes q) k.0 k.1 l.0 l.1 c)
+
+  two_come : (p q : X) (p' q' : Y) → Keeps p → Keeps q → Goes p p' → Goes q q' → SpansConflict (reads' p') (writes' p') (reads' q') (writes' q') → SpansConflict (reads p) (writes p) (reads q) (writes q)
+  two_come p q p' q' k l g h c =
+      conflict_comes In to (reads p) (writes p) (reads q) (writes q) k.0 k.1 l.0 l.1 apart
+      (subst (λ (T : Type 0). T) (λ i. SpansConflict (g.0 i) (g.1 i) (h.0 i) (h.1 i)) c)
+
+  pub two_stay : (p q : X) (p' q' : Y) → Keeps p → Keeps q → Goes p p' → Goes q q' → (SpansConflict (reads p) (writes p) (reads q) (writes q) ↔ SpansConflict (reads' p') (writes' p') (reads' q') (writes' q'))
+  two_stay p q p' q' k l g h = (two_go p q p' q' k l g h, two_come p q p' q' k l g h)
+
+  keeps_at : (xs : List X) (i : ℕ) (x : X) → AllByRecursion Keeps xs → slice_get xs i ≡ Some x → Keeps x
+  keeps_at [] i x all there = absurd cc
+  keeps_at (y ∷ xs) zero x all there = subst (λ (z : X). Keeps z) (same_Some y x there) all.0
+  keeps_at (y ∷ xs) (suc i) x all there = keeps_at xs i x all.1 there
+
+  pub conflicts_at_stay : (xs : List X) (ys : List Y) → AllPaired Goes xs ys → AllByRecursion Keeps xs → (i j : ℕ) → (PieceConflictAt reads writes xs i j ↔ PieceConflictAt reads' writes' ys i j)
+  conflicts_at_stay xs ys go keep i j = (
+    λ (p, q, at_i, at_j, c).
+        let p' = paired_there Goes xs ys i p go at_i in
+        let q' = paired_there Goes xs ys j q go at_j in
+        (p'.0, q'.0, p'.1, q'.1, two_go p q p'.0 q'.0 (keeps_at xs i p keep at_i) (keeps_at xs j q keep at_j) p'.2 q'.2 c),
+    λ (p', q', at_i, at_j, c).
+        let p = paired_back Goes xs ys i p' go at_i in
+        let q = paired_back Goes xs ys j q' go at_j in
+        (p.0, q.0, p.1, q.1, two_come p.0 q.0 p' q' (keeps_at xs i p.0 keep p.1) (keeps_at xs j q.0 keep q.1) p.2 q.2 c),
+  )
+
+-- ---- descriptors
 
 pub conflicts_stay : (In : ℕ → Type 0) (to : ℕ → ℕ) (f g : Fields) → IsOneToOne In to → SpansKeepOffsets In to f → SpansKeepOffsets In to g → (Conflicts f g ↔ Conflicts (relocated_fields to f) (relocated_fields to g))
-conflicts_stay In to f g apart m n = (conflict_goes In to f g apart m n, conflict_comes In to f g apart m n)
+conflicts_stay In to f g apart m n =
+    two_stay Fields Fields read_spans written_spans read_spans written_spans In to apart f g (relocated_fields to f) (relocated_fields to g) m n
+    (reads_relocate to f, writes_relocate to f) (reads_relocate to g, writes_relocate to g)
 
--- ---- by places
+abbrev FieldsGo : (ℕ → ℕ) → Fields → Fields → Type 0
+FieldsGo to f e = (read_spans e ≡ map (relocated_span to) (read_spans f)) × (written_spans e ≡ map (relocated_span to) (written_spans f))
 
-keeps_at : (In : ℕ → Type 0) (to : ℕ → ℕ) (fs : List Fields) (i : ℕ) (f : Fields) → AllKeepOffsets In to fs → slice_get fs i ≡ Some f → SpansKeepOffsets In to f
-keeps_at In to [] i f all there = absurd cc
-keeps_at In to (g ∷ fs) zero f all there = subst (λ (x : Fields). SpansKeepOffsets In to x) (same_Some g f there) all.0
-keeps_at In to (g ∷ fs) (suc i) f all there = keeps_at In to fs i f all.1 there
+all_go : (to : ℕ → ℕ) (fs : List Fields) → AllPaired (FieldsGo to) fs (map (relocated_fields to) fs)
+all_go to [] = tt
+all_go to (f ∷ fs) = ((reads_relocate to f, writes_relocate to f), all_go to fs)
 
 -- the element at a place of the relocated list is relocated
 from_map : (to : ℕ → ℕ) (o : Option Fields) (e : Fields) → option_map (relocated_fields to) o ≡ Some e → (f : Fields) × (o ≡ Some f) × (e ≡ relocated_fields to f)
@@ -96,17 +151,4 @@ pub relocated_at : (to : ℕ → ℕ) (fs : List Fields) (i : ℕ) (e : Fields) 
 relocated_at to fs i e there = from_map to (slice_get fs i) e (sym (slice_get-map (relocated_fields to) fs i) ∙ there)
 
 pub places_stay : (In : ℕ → Type 0) (to : ℕ → ℕ) (fs : List Fields) → IsOneToOne In to → AllKeepOffsets In to fs → (i j : ℕ) → (ConflictAt fs i j ↔ ConflictAt (map (relocated_fields to) fs) i j)
-places_stay In to fs apart all i j = (
-  λ (f, g, at_i, at_j, h). (
-    relocated_fields to f,
-    relocated_fields to g,
-    slice_get-map (relocated_fields to) fs i ∙ ap (option_map (relocated_fields to)) at_i,
-    slice_get-map (relocated_fields to) fs j ∙ ap (option_map (relocated_fields to)) at_j,
-    conflict_goes In to f g apart (keeps_at In to fs i f all at_i) (keeps_at In to fs j g all at_j) h,
-  ),
-  λ (d, e, at_i, at_j, h).
-      let p = relocated_at to fs i d at_i in
-      let q = relocated_at to fs j e at_j in
-      let h' : Conflicts (relocated_fields to p.0) (relocated_fields to q.0) = subst (λ (x : Fields). Conflicts (relocated_fields to p.0) x) q.2 (subst (λ (x : Fields). Conflicts x e) p.2 h) in
-      (p.0, q.0, p.1, q.1, conflict_comes In to p.0 q.0 apart (keeps_at In to fs i p.0 all p.1) (keeps_at In to fs j q.0 all q.1) h'),
-)
+places_stay In to fs apart all = conflicts_at_stay Fields Fields read_spans written_spans read_spans written_spans In to apart fs (map (relocated_fields to) fs) (all_go to fs) all

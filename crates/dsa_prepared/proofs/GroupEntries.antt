@@ -1,17 +1,15 @@
 -- The loops that make the entries of a plan's groups.
-use Rattle.std.proofs.Common.{◌≡◌, ℕ, zero, suc, ◌+◌, ◌-◌, ◌*◌, ◌<◌, ◌≤◌, false, List, [], ◌∷◌, ◌++◌, length, map, take, drop, get_or, refl, sym, ap, ◌∙◌, add-one, arith}
+use Rattle.std.proofs.Common.{◌≡◌, ℕ, zero, suc, ◌+◌, ◌-◌, ◌*◌, ◌<◌, ◌≤◌, false, List, [], ◌∷◌, ◌++◌, length, take, drop, get_or, refl, sym, ap, ◌∙◌, add-one, arith}
 use Rattle.std.specs.Prelude.{replicate, slice_index_or, if◌then◌else◌}
 use Rattle.std.specs.Int.{w32, to_le_bytes}
-use Rattle.std.proofs.lemmas.List.{drop_more, get_or-map, length-map, drop-map, take_rest, take-append-le}
+use Rattle.std.specs.List.{flat_map}
+use Rattle.std.proofs.lemmas.List.{drop_more, take_rest, take-append-le}
 use Rattle.std.proofs.lemmas.List.Sums.{sum_by-take-le}
-use Rattle.dsa_descriptor.specs.declared.descriptor.Descriptor.{Descriptor}
 use Rattle.dsa_descriptor.specs.declared.span.Span.{Span}
-use Rattle.dsa_descriptor.specs.Descriptors.{fields}
-use Rattle.dsa_descriptor.specs.Fields.{Fields}
-use Rattle.dsa_descriptor.specs.Lists.{list_spelling}
 use Rattle.dsa_descriptor.specs.Pieces.{most_pieces}
-use Rattle.dsa_descriptor.specs.Spelling.{spelling}
-use Rattle.dsa_descriptor.proofs.Listed.{length-spelling}
+use Rattle.dsa_operations.specs.declared.operation.Operation.{Operation}
+use Rattle.dsa_operations.specs.Operations.{spelling_of}
+use Rattle.dsa_operations.proofs.Answered.{are_operations}
 use Rattle.dsa_emission.specs.declared.place.Place.{Place}
 use Rattle.dsa_emission.specs.Emission.{batched, batched_count, is_batch, place_of}
 use Rattle.dsa_emission.proofs.Places.{batch_yes, batch_no, counts_within, place_of-next, group_read}
@@ -26,10 +24,10 @@ pub gathered_more : (part : ℕ → List Entry) (m : ℕ) (old new more : List E
 gathered_more part m old new more so_far added is = rw (add-one m) (added ∙ (λ i. so_far i ++ sym is i))
 
 -- the entry of a batch, as the code makes it
-abbrev pub batch_made : Descriptor → ℕ → ℕ → ℕ → Entry
+abbrev pub batch_made : Operation → ℕ → ℕ → ℕ → Entry
 batch_made first record_at list_at count =
     record {
-      head = take 4 (spelling (fields first)) ++ to_le_bytes w32 0x0100000c;
+      head = take 4 (spelling_of first) ++ to_le_bytes w32 0x0100000c;
       completion = InStaging record_at;
       first = InStaging list_at;
       second = Fixed 0;
@@ -37,24 +35,22 @@ batch_made first record_at list_at count =
       own = Fixed 0;
     }
 
-pub batch_group : (rs : List Span) (total : ℕ) (place : Place) (g : Group) (ds : List Descriptor) (d : Descriptor) (record_at list_at count : ℕ) → 1 < length g → 0 < length ds → d ≡ get_or ds 0 d →
-    64 * total + 32 * place.batches ≡ record_at → 64 * place.batched ≡ list_at → length g ≡ count → group_entries rs total place g (map fields ds) ≡ batch_made d record_at list_at count ∷ []
-batch_group rs total place g [] d record_at list_at count more some is a b n = absurd (omega (arith, some))
-batch_group rs total place g (x ∷ ds) d record_at list_at count more some is a b n =
-    let first : take 4 (list_spelling (map fields (x ∷ ds))) ≡ take 4 (spelling (fields d)) =
-    take-append-le 4 (spelling (fields x)) (list_spelling (map fields ds)) (omega (arith, length-spelling x)) ∙ ap (λ (y : Descriptor). take 4 (spelling (fields y))) (sym is) in
+pub batch_group : (rs : List Span) (total : ℕ) (place : Place) (g : Group) (ps : List Operation) (p : Operation) (record_at list_at count : ℕ) → 1 < length g → 0 < length ps → p ≡ get_or ps 0 p →
+    64 * total + 32 * place.batches ≡ record_at → 64 * place.batched ≡ list_at → length g ≡ count → group_entries rs total place g ps ≡ batch_made p record_at list_at count ∷ []
+batch_group rs total place g [] p record_at list_at count more some is a b n = absurd (omega (arith, some))
+batch_group rs total place g (x ∷ ps) p record_at list_at count more some is a b n =
+    let first : take 4 (flat_map spelling_of (x ∷ ps)) ≡ take 4 (spelling_of p) =
+    take-append-le 4 (spelling_of x) (flat_map spelling_of ps) (omega (arith, are_operations.whole x)) ∙ ap (λ (y : Operation). take 4 (spelling_of y)) (sym is) in
     rw (batch_yes g more, first, a, b, n) refl
 
-pub lone_group : (rs : List Span) (total : ℕ) (place : Place) (g : Group) (ds : List Descriptor) (d : Descriptor) (start : ℕ) → length g ≡ 1 → place.start ≡ start → start < length ds → d ≡ get_or ds start d →
-    group_entries rs total place g (map fields ds) ≡ entry_of rs false (fields d) ∷ []
-lone_group rs total place g ds d start one from within is =
-    let rest : drop start (map fields ds) ≡ get_or (map fields ds) start (fields d) ∷ drop (start + 1) (map fields ds) =
-    drop_more (map fields ds) start (fields d) (omega (arith, within, length-map ds fields)) in
-    let here : get_or (map fields ds) start (fields d) ≡ fields d = get_or-map fields ds start d (fields d) within ∙ ap fields (sym is) in
-    rw (batch_no g (λ more. absurd (omega (arith, more, one))), one, from, rest, here) refl
+pub lone_group : (rs : List Span) (total : ℕ) (place : Place) (g : Group) (ps : List Operation) (p : Operation) (start : ℕ) → length g ≡ 1 → place.start ≡ start → start < length ps → p ≡ get_or ps start p →
+    group_entries rs total place g ps ≡ entry_of rs false p ∷ []
+lone_group rs total place g ps p start one from within is =
+    let rest : drop start ps ≡ get_or ps start p ∷ drop (start + 1) ps = drop_more ps start p within in
+    rw (batch_no g (λ more. absurd (omega (arith, more, one))), one, from, rest, sym is) refl
 
 -- the entries of one piece more
-fenced_suc : (rs : List Span) (g : Group) (ps : List Fields) (k : ℕ) (d : Fields) → k < length g → k < length ps →
+fenced_suc : (rs : List Span) (g : Group) (ps : List Operation) (k : ℕ) (d : Operation) → k < length g → k < length ps →
     fenced_entries rs (take (suc k) g) ps ≡ fenced_entries rs (take k g) ps ++ entry_of rs (get_or g k false) (get_or ps k d) ∷ []
 fenced_suc rs [] ps k d lt within = absurd (omega (arith, lt))
 fenced_suc rs (x ∷ g) [] k d lt within = absurd (omega (arith, within))
@@ -62,22 +58,19 @@ fenced_suc rs (x ∷ g) (p ∷ ps) zero d lt within = refl
 fenced_suc rs (x ∷ g) (p ∷ ps) (suc k) d lt within =
     ap (λ (es : List Entry). entry_of rs x p ∷ es) (fenced_suc rs g ps k d (omega (arith, lt)) (omega (arith, within)))
 
-pub fenced_more : (rs : List Span) (g : Group) (ds : List Descriptor) (k : ℕ) (d : Descriptor) → k < length g → k < length ds → d ≡ get_or ds k d →
-    fenced_entries rs (take (k + 1) g) (map fields ds) ≡ fenced_entries rs (take k g) (map fields ds) ++ entry_of rs (get_or g k false) (fields d) ∷ []
-fenced_more rs g ds k d lt within is =
-    let here : get_or (map fields ds) k (fields d) ≡ fields d = get_or-map fields ds k d (fields d) within ∙ ap fields (sym is) in
-    rw (add-one k) (fenced_suc rs g (map fields ds) k (fields d) lt (omega (arith, within, length-map ds fields))
-    ∙ ap (λ (f : Fields). fenced_entries rs (take k g) (map fields ds) ++ entry_of rs (get_or g k false) f ∷ []) here)
+pub fenced_more : (rs : List Span) (g : Group) (ps : List Operation) (k : ℕ) (p : Operation) → k < length g → k < length ps → p ≡ get_or ps k p →
+    fenced_entries rs (take (k + 1) g) ps ≡ fenced_entries rs (take k g) ps ++ entry_of rs (get_or g k false) p ∷ []
+fenced_more rs g ps k p lt within is =
+    rw (add-one k) (fenced_suc rs g ps k p lt within
+    ∙ ap (λ (o : Operation). fenced_entries rs (take k g) ps ++ entry_of rs (get_or g k false) o ∷ []) (sym is))
 
 -- the pieces of a batch, as the code cuts them out
-pub batch_cut : (rs : List Span) (start : ℕ) (g : Group) (ds : List Descriptor) →
-    fenced_entries rs g (map fields (take (length ds - start) (drop start ds))) ≡ fenced_entries rs g (drop start (map fields ds))
-batch_cut rs start g ds =
-    ap (λ (es : List Descriptor). fenced_entries rs g (map fields es)) (take_rest ds start)
-    ∙ ap (λ (ps : List Fields). fenced_entries rs g ps) (sym (drop-map fields start ds))
+pub batch_cut : (rs : List Span) (start : ℕ) (g : Group) (ps : List Operation) →
+    fenced_entries rs g (take (length ps - start) (drop start ps)) ≡ fenced_entries rs g (drop start ps)
+batch_cut rs start g ps = ap (λ (es : List Operation). fenced_entries rs g es) (take_rest ps start)
 
 -- what was added for the group that begins there
-pub staged_here : (rs : List Span) (plan : Plan) (m : ℕ) (g : Group) (start : ℕ) (fs : List Fields) (old new : List Entry) → start ≡ start_of plan m →
+pub staged_here : (rs : List Span) (plan : Plan) (m : ℕ) (g : Group) (start : ℕ) (fs : List Operation) (old new : List Entry) → start ≡ start_of plan m →
     new ≡ old ++ (if is_batch g then fenced_entries rs g (drop start fs) else []) → new ≡ old ++ group_staged rs (place_of plan m) g fs
 staged_here rs plan m g start fs old new is added = added ∙ ap (λ (n : ℕ). old ++ (if is_batch g then fenced_entries rs g (drop n fs) else [])) is
 
@@ -96,7 +89,7 @@ batched_few plan m g lt is few =
     omega (arith, c.1, w, few, batched_next plan m g lt is)
 
 -- the entries with that of one group more
-pub portal_next : (rs : List Span) (plan : Plan) (fs : List Fields) (m : ℕ) (g : Group) (old new : List Entry) (e : Entry) → m < length plan → g ≡ get_or plan m g →
+pub portal_next : (rs : List Span) (plan : Plan) (fs : List Operation) (m : ℕ) (g : Group) (old new : List Entry) (e : Entry) → m < length plan → g ≡ get_or plan m g →
     old ≡ gathered (λ number. group_entries rs (batched_count plan) (place_of plan number) (slice_index_or plan number []) fs) m → new ≡ old ++ e ∷ [] →
     group_entries rs (batched_count plan) (place_of plan m) g fs ≡ e ∷ [] →
     new ≡ gathered (λ number. group_entries rs (batched_count plan) (place_of plan number) (slice_index_or plan number []) fs) (m + 1)

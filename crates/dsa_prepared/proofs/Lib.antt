@@ -27,3 +27,7 @@ pub mod RowLists
 pub mod RowChecks
 pub mod RowParts
 pub mod Ranked
+pub mod AsOperations
+pub mod Moved
+pub mod AnyPlanned
+pub mod AnyPreparation

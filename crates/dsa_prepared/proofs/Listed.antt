@@ -26,7 +26,7 @@ use Rattle.dsa_prepared.proofs.PiecesLie.{all_join}
 use Rattle.dsa_prepared.proofs.Submissions.{addressable, data_relocates, submission_relocates}
 
 -- the first address of a span goes to an address
-fits : (rs : List Region) (s : Span) → AreDisjoint rs → AllByRecursion (λ r. IsAddressable (new_span r)) rs → LiesInOne (map base_span rs) s → relocated rs s.first < 2 ^ 64
+pub fits : (rs : List Region) (s : Span) → AreDisjoint rs → AllByRecursion (λ r. IsAddressable (new_span r)) rs → LiesInOne (map base_span rs) s → relocated rs s.first < 2 ^ 64
 fits [] s apart fit lies = absurd lies
 fits (r ∷ rs) s apart fit (inl lies) =
     let e = head r rs s.first (lies.0, lies.1) in
@@ -45,7 +45,7 @@ two_apart rs s t apart lies lies' h b here there =
     h c.0 c.1 (omega (arith, same, d.1.0), omega (arith, same, d.1.1))
 
 module _ (rs : List Region) (apart : AreDisjoint rs) (fit : AllByRecursion (λ r. IsAddressable (new_span r)) rs) where
-  all_addressable : (ss : List Span) → AllByRecursion (LiesInOne (map base_span rs)) ss → AllByRecursion IsAddressable (map (relocated_span (relocated rs)) ss)
+  pub all_addressable : (ss : List Span) → AllByRecursion (LiesInOne (map base_span rs)) ss → AllByRecursion IsAddressable (map (relocated_span (relocated rs)) ss)
   all_addressable [] lie = tt
   all_addressable (s ∷ ss) lie = (addressable rs s apart fit lie.0, all_addressable ss lie.1)
 

@@ -4,6 +4,7 @@ use Rattle.std.specs.Prelude.{Ok}
 use Rattle.std.specs.List.{AllByRecursion}
 use Rattle.std.proofs.lemmas.Bool.{cases_Bool}
 use Rattle.std.proofs.lemmas.Grind.{div_ceil_times}
+use Rattle.std.proofs.lemmas.List.{length-map}
 use Rattle.dsa_descriptor.specs.declared.descriptor.Descriptor.{Descriptor}
 use Rattle.dsa_descriptor.specs.declared.span.Span.{Span}
 use Rattle.dsa_descriptor.specs.Descriptors.{fields}
@@ -11,6 +12,7 @@ use Rattle.dsa_descriptor.specs.Fields.{Fields}
 use Rattle.dsa_descriptor.specs.Profile.{IsListed}
 use Rattle.dsa_descriptor.specs.Spans.{ApartFrom, IsAddressable, span}
 use Rattle.dsa_image.specs.Parts.{quotient_up}
+use Rattle.dsa_operations.specs.declared.operation.Operation.TheVariants as operation
 use Rattle.dsa_plan.specs.Plan.{Plan}
 use Rattle.dsa_plan.specs.Settings.{Limits}
 use Rattle.dsa_plan.specs.Emission.{portal_bytes, staging_bytes}
@@ -33,16 +35,18 @@ use Rattle.dsa_prepared.proofs.PiecesLie.{all_join, all_first, pieces_lie}
 use Rattle.dsa_prepared.proofs.ByRegions.{pieces_relocate}
 use Rattle.dsa_prepared.proofs.Submissions.{may_split}
 use Rattle.dsa_prepared.specs.Templates.{Template, template_of}
-use Rattle.dsa_prepared.specs.Preparing.{AreRegions, IsPreparedOf, IsSplitInto, relocation}
+use Rattle.dsa_prepared.specs.Preparing.{AreRegions, IsPreparedOf, relocation}
+use Rattle.dsa_prepared.specs.Sound.{IsSplitInto}
 use Rattle.dsa_prepared.specs.Filling.{HasBases, CanFill, IsPlannedAnew}
 use Rattle.dsa_prepared.specs.Laws.{FilledIsPlanned, PreparedWithoutFences}
 use Rattle.dsa_prepared.specs.Templates.{filled_portal, filled_staging}
 use Rattle.dsa_prepared.proofs.Spans.{bases_are, disjoint, all_fit, all_clear}
+use Rattle.dsa_prepared.proofs.AsOperations.{aligned_of, pieces_of, portal_alike, staging_alike, whole_of}
 use Rattle.dsa_prepared.proofs.Whole.{filled_is_emission, aligned_bases_align}
 
 -- ---- descriptors of listed fields
 
-abbrev made : (f : Fields) → IsListed f → Descriptor
+abbrev pub made : (f : Fields) → IsListed f → Descriptor
 made f listed =
     record {
       pasid = f.pasid;
@@ -79,7 +83,7 @@ front_lies [] a len some le lies = absurd lies
 front_lies (r ∷ rs) a len some le (inl lies) = inl (lies.0, lies.1, omega (arith, le, lies.2))
 front_lies (r ∷ rs) a len some le (inr lies) = inr (front_lies rs a len some le lies)
 
-op_lies : (rs : List Span) (g : ℕ) (f : Fields) → 0 < g → IsListed f → LiesWhole rs g f → LieInOne rs f
+pub op_lies : (rs : List Span) (g : ℕ) (f : Fields) → 0 < g → IsListed f → LiesWhole rs g f → LieInOne rs f
 op_lies rs g f pos listed whole =
     let count : 0 < piece_count f g = some_pieces f.size g listed.size_positive pos in
     (whole.from, (front_lies rs f.record_at (32 * piece_count f g) 32 (omega (arith, count)) whole.row, whole.into))
@@ -125,12 +129,12 @@ pub record IsMoved (rs : List Span) (bases : List ℕ) (staging : ℕ) (s : Limi
   pub moved : List Descriptor
   pub moved_are : map fields moved ≡ map (relocated_fields (relocated (relocation rs bases))) (map fields pieces)
   pub may : MayRelocate (relocation rs bases) staging s (map fields ds)
-  pub portal_is : portal_bytes (staged_at staging s) plan (map fields moved) ≡ filled_portal (template_of rs (map fields ds) plan (map fields pieces)) bases staging
-  pub staging_is : staging_bytes plan (map fields moved) ≡ filled_staging (template_of rs (map fields ds) plan (map fields pieces)) bases staging
+  pub portal_is : portal_bytes (staged_at staging s) plan (map fields moved) ≡ filled_portal (template_of rs (map operation.Descriptor ds) plan (map operation.Descriptor pieces)) bases staging
+  pub staging_is : staging_bytes plan (map fields moved) ≡ filled_staging (template_of rs (map operation.Descriptor ds) plan (map operation.Descriptor pieces)) bases staging
 
 pub moves : (rs : List Span) (bases : List ℕ) (staging : ℕ) (s : Limits) (ds pieces : List Descriptor) (plan : Plan) → 8 ≤ s.greatest_transfer → IsSplitInto s ds pieces → AreRegions rs →
-    AllByRecursion (LiesWhole rs s.greatest_transfer) (map fields ds) → HasBases (template_of rs (map fields ds) plan (map fields pieces)) bases →
-    CanFill (template_of rs (map fields ds) plan (map fields pieces)) bases staging → IsMoved rs bases staging s ds pieces plan
+    AllByRecursion (LiesWhole rs s.greatest_transfer) (map fields ds) → HasBases (template_of rs (map operation.Descriptor ds) plan (map operation.Descriptor pieces)) bases →
+    CanFill (template_of rs (map operation.Descriptor ds) plan (map operation.Descriptor pieces)) bases staging → IsMoved rs bases staging s ds pieces plan
 moves rs bases staging s ds pieces plan least is regions lies count can =
     let g : ℕ = s.greatest_transfer in
     let pos : 0 < g = omega (arith, least) in
@@ -143,10 +147,10 @@ moves rs bases staging s ds pieces plan least is regions lies count can =
     let whole : AllByRecursion (LiesWhole (map base_span rel) g) ops = subst (λ (ss : List Span). AllByRecursion (LiesWhole ss g) ops) (sym spans) lies in
     let lie : AllLieInOne rs ops = ops_lie rs g ds pos lies in
     let lie' : AllLieInOne (map base_span rel) ops = subst (λ (ss : List Span). AllLieInOne ss ops) (sym spans) lie in
-    let aligned = aligned_bases_align rs bases ds pieces plan count lie can.aligned can.tied in
-    let total : length (map fields pieces) ≡ piece_total g ops = ap length is.pieces_are ∙ length_all ops g in
+    let aligned = aligned_of (relocated rel) ds (aligned_bases_align rs bases (map operation.Descriptor ds) (map operation.Descriptor pieces) plan count (pieces_of rs ds lie) can.aligned can.tied) in
+    let total : length (map operation.Descriptor pieces) ≡ piece_total g ops = omega (arith, length-map pieces operation.Descriptor, length-map pieces fields, ap length is.pieces_are, length_all ops g) in
     let clear : ApartFrom (staging_area staging (piece_total g ops)) (map new_span rel) =
-    subst (λ (n : ℕ). ApartFrom (staging_area staging n) (map new_span rel)) total (all_clear rs bases (staging_area staging (length (map fields pieces))) count can.clear) in
+    subst (λ (n : ℕ). ApartFrom (staging_area staging n) (map new_span rel)) total (all_clear rs bases (staging_area staging (length (map operation.Descriptor pieces))) count can.clear) in
     let may : MayRelocate rel staging s ops = record { apart = apart; addressable = fit; clear = clear; operations = whole } in
     let listed = ops_listed rel g pos apart fit ds lie' aligned in
     let listed' = subst (λ (fs : List Fields). AllByRecursion IsListed fs) (pieces_relocate rel g ops apart pos whole ∙ ap (map to) (sym is.pieces_are))
@@ -154,15 +158,15 @@ moves rs bases staging s ds pieces plan least is regions lies count can =
     let new_ops = all_made (map to ops) listed in
     let new_pieces = all_made (map to (map fields pieces)) listed' in
     let pieces_in : AllLieInOne rs (map fields pieces) = subst (λ (fs : List Fields). AllLieInOne rs fs) (sym is.pieces_are) (pieces_lie rs g ops pos lies) in
-    let bytes = filled_is_emission rs bases staging s ds pieces plan count pieces_in in
+    let bytes = filled_is_emission rs bases staging s (map operation.Descriptor ds) (map operation.Descriptor pieces) plan count (pieces_of rs pieces pieces_in) in
     record {
       operations = new_ops.0;
       operations_are = new_ops.1;
       moved = new_pieces.0;
       moved_are = new_pieces.1;
       may = may;
-      portal_is = ap (λ (fs : List Fields). portal_bytes (staged_at staging s) plan fs) new_pieces.1 ∙ sym bytes.0;
-      staging_is = ap (λ (fs : List Fields). staging_bytes plan fs) new_pieces.1 ∙ sym bytes.1;
+      portal_is = ap (λ (fs : List Fields). portal_bytes (staged_at staging s) plan fs) new_pieces.1 ∙ sym (portal_alike (relocated rel) (staged_at staging s) plan pieces) ∙ sym bytes.0;
+      staging_is = ap (λ (fs : List Fields). staging_bytes plan fs) new_pieces.1 ∙ sym (staging_alike (relocated rel) plan pieces) ∙ sym bytes.1;
     }
 
 abbrev Answer : List ℕ → List Span → List ℕ → ℕ → Limits → List Descriptor → Template → Type 0
@@ -171,13 +175,13 @@ Answer list rs bases staging s ds t =
     × (p.portal ≡ filled_portal t bases staging) × (p.staging ≡ filled_staging t bases staging)
 
 of_template : (list : List ℕ) (s : Limits) (rs : List Span) (ds : List Descriptor) (t : Template) (bases : List ℕ) (staging : ℕ) (h : IsPreparedOf list s rs ds t) →
-    HasBases (template_of rs (map fields ds) h.submission.plan (map fields h.submission.pieces)) bases →
-    CanFill (template_of rs (map fields ds) h.submission.plan (map fields h.submission.pieces)) bases staging →
-    Answer list rs bases staging s ds (template_of rs (map fields ds) h.submission.plan (map fields h.submission.pieces))
+    HasBases (template_of rs (map operation.Descriptor ds) h.submission.plan (map operation.Descriptor h.submission.pieces)) bases →
+    CanFill (template_of rs (map operation.Descriptor ds) h.submission.plan (map operation.Descriptor h.submission.pieces)) bases staging →
+    Answer list rs bases staging s ds (template_of rs (map operation.Descriptor ds) h.submission.plan (map operation.Descriptor h.submission.pieces))
 of_template list s rs ds t bases staging h count can =
-    let least = h.limits.least_transfer in
+    let least = h.kept.limits.least_transfer in
     let p : Submission = h.submission in
-    let m = moves rs bases staging s ds p.pieces p.plan least (record { split = h.planned.split; pieces_are = h.planned.pieces_are }) h.regions h.lie count can in
+    let m = moves rs bases staging s ds p.pieces p.plan least (record { split = h.planned.split; pieces_are = h.planned.pieces_are }) h.kept.regions (whole_of rs s.greatest_transfer ds h.kept.lie) count can in
     let q : Submission = with_pieces (staged_at staging s) m.moved p in
     let plans = plans_relocate (relocation rs bases) staging s list ds m.operations m.moved p (omega (arith, least)) m.may h.listed h.planned m.operations_are m.moved_are in (
       q,
@@ -188,7 +192,7 @@ of_template list s rs ds t bases staging h count can =
 
 pub filled_is_planned : FilledIsPlanned
 filled_is_planned list s rs ds t bases staging h =
-    subst (λ (x : Template). HasBases x bases → CanFill x bases staging → Answer list rs bases staging s ds x) (sym h.template) (of_template list s rs ds t bases staging h)
+    subst (λ (x : Template). HasBases x bases → CanFill x bases staging → Answer list rs bases staging s ds x) (sym h.kept.template) (of_template list s rs ds t bases staging h)
 
 -- ---- without fences
 

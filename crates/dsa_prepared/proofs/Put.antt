@@ -1,6 +1,7 @@
 -- Entries that are written one after another, and words that have values.
 use Rattle.std.proofs.Common.{◌≡◌, ◌⊎◌, inl, inr, ℕ, ◌+◌, ◌*◌, ◌^◌, ◌<◌, ◌≤◌, List, [], ◌∷◌, ◌++◌, length, take, drop, get_or, set, ◌-◌, append_assoc, length-take, refl, sym, ap, subst, ◌∙◌, arith}
-use Rattle.std.specs.Prelude.{All, replicate}
+use Rattle.std.specs.Prelude.{◌&&◌, All, replicate}
+use Rattle.std.proofs.lemmas.Bool.{cases_Bool}
 use Rattle.std.proofs.lemmas.List.{take_at, drop_at, drop-drop, take_more, take_all, append-nil, length-append, length-replicate, set-append_right, drop_more}
 use Rattle.std.proofs.lemmas.List.Concat.{flat_map-append}
 use Rattle.dsa_descriptor.specs.declared.span.Span.{Span}
@@ -8,8 +9,9 @@ use Rattle.dsa_descriptor.specs.Spans.{Apart, span}
 use Rattle.dsa_prepared.specs.declared.word.Word.{Word}
 use Rattle.dsa_prepared.specs.declared.word.Word.TheVariants.{InRegion, InStaging, Fixed}
 use Rattle.dsa_prepared.specs.declared.entry.Entry.{Entry}
-use Rattle.dsa_prepared.specs.Entries.{filled, filled_entry, word_value}
-use Rattle.dsa_prepared.specs.Rows.{IsOrigin, word_in}
+use Rattle.dsa_prepared.specs.Entries.{filled, filled_entry, is_address, reads_seed, word_value}
+use Rattle.dsa_prepared.specs.Rows.{IsOrigin, entry_in, word_in}
+use Rattle.dsa_prepared.specs.declared.row.Row.{Row}
 use Rattle.dsa_prepared.specs.Sound.{ArePut, HasValue, HasValues, IsWithin, AreWithin}
 use Rattle.dsa_prepared.specs.Templates.{Template, filled_portal, filled_staging}
 use Rattle.dsa_prepared.specs.Filling.{AllBelow, FitsAt, IsStaging, written}
@@ -94,6 +96,14 @@ word_more old now next done part place n at was long is room put =
     put ∙ (λ i. first i ++ (part ++ last i))
     ∙ append_assoc (take place old) done (part ++ drop (place + (n + 8)) old)
     ∙ ap (λ (xs : List ℕ). take place old ++ xs) (sym (append_assoc done part (drop (place + (n + 8)) old)))
+
+-- what a row gives has 64 bytes
+pub filled_long : (bases : List ℕ) (staging : ℕ) (row : Row) → length (filled_entry bases staging (entry_in row)) ≡ 64
+filled_long bases staging row =
+    elim (cases_Bool (is_address (entry_in row).own && reads_seed (entry_in row).head)) [
+      | inl set ↦ rw set refl
+      | inr unset ↦ rw unset refl
+    ]
 
 -- ---- tests
 

@@ -73,7 +73,7 @@ expected_moves to (ApplyDelta delta dst record_size) flags size g h = h
 expected_moves to (Dualcast src dst dst2) flags size g h = h
 
 -- a span that was apart from others is apart from them where they go
-apart_moves : (In : ℕ → Type 0) (to : ℕ → ℕ) (s : Span) (ss : List Span) → IsOneToOne In to → KeepsOffsets In to s → AllByRecursion (KeepsOffsets In to) ss → ApartFrom s ss → ApartFrom (relocated_span to s) (map (relocated_span to) ss)
+pub apart_moves : (In : ℕ → Type 0) (to : ℕ → ℕ) (s : Span) (ss : List Span) → IsOneToOne In to → KeepsOffsets In to s → AllByRecursion (KeepsOffsets In to) ss → ApartFrom s ss → ApartFrom (relocated_span to s) (map (relocated_span to) ss)
 apart_moves In to s ss apart whole wholes h b here there =
     let c = comes In to s b whole here in
     let d = some_come In to ss b wholes there in
@@ -97,7 +97,7 @@ total_moves to g (f ∷ fs) =
     omega (arith, total_moves to g fs, sum_by-cons (λ (x : Fields). piece_count x g) f fs, sum_by-cons (λ (x : Fields). piece_count x g) (relocated_fields to f) (map (relocated_fields to) fs))
 
 -- what relocated spans have lies where the regions go
-lands : (rs : List Region) (ss : List Span) (b : ℕ) → AreDisjoint rs → AllByRecursion (LiesInOne (map base_span rs)) ss → InSome (map (relocated_span (relocated rs)) ss) b → InSome (map new_span rs) b
+pub lands : (rs : List Region) (ss : List Span) (b : ℕ) → AreDisjoint rs → AllByRecursion (LiesInOne (map base_span rs)) ss → InSome (map (relocated_span (relocated rs)) ss) b → InSome (map new_span rs) b
 lands rs ss b apart lie here =
     let c = some_come (HasAddress rs) (relocated rs) ss b (spans_relocate rs ss apart lie) here in
     subst (λ (x : ℕ). InSome (map new_span rs) x) c.3 (goes_to rs c.0 apart c.2)
@@ -140,7 +140,7 @@ marks_stay to g [] (mark ∷ marks) = refl
 marks_stay to g (f ∷ fs) (mark ∷ marks) =
     ap (λ (ms : List Bool). (mark ∷ replicate (piece_count f g - 1) false) ++ ms) (marks_stay to g fs marks)
 
-with_within : (C D : ℕ → ℕ → Type 0) (marks : List Bool) → Within C D → Within (WithBarriers C marks) (WithBarriers D marks)
+pub with_within : (C D : ℕ → ℕ → Type 0) (marks : List Bool) → Within C D → Within (WithBarriers C marks) (WithBarriers D marks)
 with_within C D marks to a b h =
     elim (parted_by C marks a b h) [
       | inl conflict ↦ by_conflict D marks a b (to a b conflict)

@@ -1,26 +1,45 @@
 -- A filled entry has the bytes of the relocated piece.
-use Rattle.std.proofs.Common.{◌≡◌, ℕ, ◌+◌, ◌-◌, ◌*◌, ◌/◌, ◌%◌, ◌^◌, ◌<◌, ◌≤◌, ◌⊎◌, inl, inr, Bool, cond, List, [], ◌∷◌, ◌++◌, length, map, take, refl, sym, ap, arith}
-use Rattle.std.specs.Prelude.{replicate}
+use Rattle.std.proofs.Common.{◌≡◌, ℕ, zero, suc, ◌+◌, ◌-◌, ◌*◌, ◌/◌, ◌%◌, ◌^◌, ◌<◌, ◌≤◌, ◌⊎◌, inl, inr, Bool, true, false, List, [], ◌∷◌, ◌++◌, length, take, get_or, refl, sym, ap, ◌∙◌, arith}
+use Rattle.std.specs.Prelude.{◌==◌, ◌&&◌, replicate}
 use Rattle.std.specs.Int.{w16, w32, w64, to_le_bytes}
-use Rattle.std.specs.List.{AllByRecursion}
+use Rattle.std.specs.List.{AllByRecursion, flat_map}
+use Rattle.std.proofs.lemmas.Bool.{and_left, ne_eqb}
+use Rattle.std.proofs.lemmas.Nat.Bits.{and_pow}
 use Rattle.dsa_descriptor.specs.declared.op.Op.{Op}
 use Rattle.dsa_descriptor.specs.declared.op.Op.TheVariants.{Move, Fill, Compare, ComparePattern, ApplyDelta, Dualcast}
 use Rattle.dsa_descriptor.specs.declared.span.Span.{Span}
 use Rattle.dsa_descriptor.specs.Data.{sources, targets}
-use Rattle.dsa_descriptor.specs.Fields.{Fields}
-use Rattle.dsa_descriptor.specs.Lists.{list_spelling}
-use Rattle.dsa_descriptor.specs.Operands.{code_of, first_field, second_field, own_bytes, own_len}
-use Rattle.dsa_descriptor.specs.Profile.{FieldsFit, IsListed}
+use Rattle.dsa_descriptor.specs.declared.descriptor.Descriptor.{Descriptor}
+use Rattle.dsa_descriptor.specs.Descriptors.{fields}
+use Rattle.dsa_descriptor.specs.Operands as descriptor
+use Rattle.dsa_descriptor.specs.Operands.{code_of, first_field, second_field, own_len}
+use Rattle.dsa_descriptor.specs.Profile.{FieldsFit}
 use Rattle.dsa_descriptor.specs.Spans.{InSome, span}
 use Rattle.dsa_descriptor.specs.Spelling.{owner_word, spelling}
 use Rattle.dsa_emission.specs.declared.place.Place.{Place}
-use Rattle.dsa_descriptor.specs.Fences.{with_fence}
+use Rattle.dsa_descriptor.specs.Fences.{fenced}
 use Rattle.dsa_emission.specs.Emission.{batch_spelling}
 use Rattle.dsa_plan.specs.Plan.{Group}
-use Rattle.dsa_prepared.specs.Relocated.{relocated_op, relocated_fields}
-use Rattle.dsa_prepared.specs.Regions.{relocated, LiesInOne, LieInOne}
+use Rattle.dsa_operations.specs.declared.checksum.Checksum.{Checksum}
+use Rattle.dsa_operations.specs.declared.checksum_op.ChecksumOp.{ChecksumOp}
+use Rattle.dsa_operations.specs.declared.checksum_op.ChecksumOp.TheVariants.{Crc, CopyCrc}
+use Rattle.dsa_operations.specs.declared.checksum_op.Seed.{Seed}
+use Rattle.dsa_operations.specs.declared.checksum_op.Seed.TheVariants.{Given, At}
+use Rattle.dsa_operations.specs.declared.operation.Operation.{Operation}
+use Rattle.dsa_operations.specs.declared.operation.Operation.TheVariants as operation
+use Rattle.dsa_operations.specs.Checksums.{checksum_fields}
+use Rattle.dsa_operations.specs.Data as data_spans
+use Rattle.dsa_operations.specs.Data.{seed_spans}
+use Rattle.dsa_operations.specs.Operands as operands
+use Rattle.dsa_operations.specs.Operands.{address_field, destination_field, given_field, given_value, has_flag, is_in_memory, seed_address, seed_of, source_field}
+use Rattle.dsa_operations.specs.Profile as checksum_profile
+use Rattle.dsa_operations.specs.Profile.{SeedFits}
+use Rattle.dsa_operations.specs.Spelling as checksum_words
+use Rattle.dsa_operations.specs.Spelling.{checksum_spelling}
+use Rattle.dsa_prepared.specs.Relocated.{relocated_op, relocated_fields, relocated_checksum, relocated_checksum_op, relocated_seed, relocated_spelling}
+use Rattle.dsa_prepared.specs.Regions.{relocated, LiesInOne, LieInOne, PieceLies}
 use Rattle.dsa_prepared.proofs.Regions.{in_tells}
-use Rattle.dsa_prepared.specs.Entries.{word_at, word_value, filled_entry, first_word, second_word, own_word, entry_of, batch_entry_of}
+use Rattle.dsa_prepared.specs.Entries.{word_at, word_value, filled_entry, own_bytes, reads_seed, first_word, second_word, own_word, source_word, destination_word, seed_word, entry_of, batch_entry_of}
 use Rattle.dsa_prepared.specs.Preparing.{relocation}
 
 -- ---- addresses
@@ -70,6 +89,55 @@ half_word n lt =
     let h : n / 72057594037927936 % 256 ≡ 0 = omega (arith, lt) in
     λ i. to_le_bytes w32 n ++ e i ∷ f i ∷ g i ∷ h i ∷ []
 
+-- ---- the first eight bytes
+
+-- byte 7 of a descriptor is its code, which is that of no checksum
+low_code : (op : Op) → code_of op < 16
+low_code (Move src dst) = omega arith
+low_code (Fill pattern dst) = omega arith
+low_code (Compare src src2 expected) = omega arith
+low_code (ComparePattern src pattern expected) = omega arith
+low_code (ApplyDelta delta dst record_size) = omega arith
+low_code (Dualcast src dst dst2) = omega arith
+
+low_reads_none : (head : List ℕ) → get_or head 7 0 < 16 → reads_seed head ≡ false
+low_reads_none head low = and_left (get_or head 7 0 / 2 == 8) (get_or head 6 0 % 2 == 1) (ne_eqb (get_or head 7 0 / 2) 8 (λ e. absurd (omega (arith, e, low))))
+
+descriptor_reads_none : (fence : Bool) (d : Descriptor) → reads_seed (take 8 (fenced fence (spelling (fields d)))) ≡ false
+unfolding spelling
+descriptor_reads_none true d = low_reads_none (take 8 (fenced true (spelling (fields d)))) (omega (arith, low_code d.op, d.listed.flags_fit))
+descriptor_reads_none false d = low_reads_none (take 8 (fenced false (spelling (fields d)))) (omega (arith, low_code d.op, d.listed.flags_fit))
+
+-- a flag of one bit is set if the bit is
+bit_is_one : (b : ℕ) → b < 2 → (b * 65536 == 65536) ≡ (b == 1)
+bit_is_one zero lt = refl
+bit_is_one (suc zero) lt = refl
+bit_is_one (suc (suc b)) lt = absurd (omega arith)
+
+bit_set : (flags : ℕ) → has_flag flags 0x010000 ≡ (flags / 65536 % 2 == 1)
+bit_set flags = ap (λ (n : ℕ). n == 65536) (and_pow flags 16) ∙ bit_is_one (flags / 65536 % 2) (omega arith)
+
+seed_fits : (op : ChecksumOp) → checksum_profile.FieldsFit op → SeedFits (seed_of op)
+seed_fits (Crc src seed) f = f.1
+seed_fits (CopyCrc src dst seed) f = f.2
+
+code_halves : (op : ChecksumOp) → (operands.code_of op ≡ 16) ⊎ (operands.code_of op ≡ 17)
+code_halves (Crc src seed) = inl refl
+code_halves (CopyCrc src dst seed) = inr refl
+
+-- bytes 6 and 7 of a checksum
+head_reads : (head : List ℕ) (flags code : ℕ) → flags < 2 ^ 24 → (code ≡ 16) ⊎ (code ≡ 17) → get_or head 7 0 ≡ (flags + code * 2 ^ 24) / 2 ^ 24 % 256 → get_or head 6 0 ≡ (flags + code * 2 ^ 24) / 2 ^ 16 % 256 →
+    reads_seed head ≡ has_flag flags 0x010000
+head_reads head flags code fit is seven six =
+    let high : get_or head 7 0 / 2 ≡ 8 = elim is [ inl a ↦ omega (arith, a, fit, seven) | inr b ↦ omega (arith, b, fit, seven) ] in
+    let bit : get_or head 6 0 % 2 ≡ flags / 2 ^ 16 % 2 = elim is [ inl a ↦ omega (arith, a, fit, six) | inr b ↦ omega (arith, b, fit, six) ] in
+    (λ i. (high i == 8) && (bit i == 1)) ∙ sym (bit_set flags)
+
+checksum_reads_seed : (fence : Bool) (c : Checksum) → reads_seed (take 8 (fenced fence (checksum_spelling (checksum_fields c)))) ≡ is_in_memory (seed_of c.op)
+unfolding checksum_spelling
+checksum_reads_seed true c = head_reads (take 8 (fenced true (checksum_spelling (checksum_fields c)))) c.flags.0 (operands.code_of c.op) c.listed.flags_fit (code_halves c.op) refl refl ∙ c.listed.seed_told
+checksum_reads_seed false c = head_reads (take 8 (fenced false (checksum_spelling (checksum_fields c)))) c.flags.0 (operands.code_of c.op) c.listed.flags_fit (code_halves c.op) refl refl ∙ c.listed.seed_told
+
 module _ (rs : List Span) (bases : List ℕ) (staging : ℕ) (count : length bases ≡ length rs) where
   goes : (a len : ℕ) → LiesInOne rs (span a len) → word_value bases staging (word_at rs a) ≡ relocated (relocation rs bases) a
   goes a len lies = sym (address_goes rs bases staging a count (first_has rs (span a len) lies))
@@ -92,7 +160,7 @@ module _ (rs : List Span) (bases : List ℕ) (staging : ℕ) (count : length bas
 
   own_goes : (op : Op) (size : ℕ) → AllByRecursion (LiesInOne rs) (targets op size) → FieldsFit op →
       to_le_bytes w64 (word_value bases staging (own_word rs op)) ++ replicate 16 0
-      ≡ own_bytes (relocated_op (relocated (relocation rs bases)) op) ++ replicate (24 - own_len (relocated_op (relocated (relocation rs bases)) op)) 0
+      ≡ descriptor.own_bytes (relocated_op (relocated (relocation rs bases)) op) ++ replicate (24 - own_len (relocated_op (relocated (relocation rs bases)) op)) 0
   own_goes (Move src dst) size t fit = refl
   own_goes (Fill pattern dst) size t fit = refl
   own_goes (Compare src src2 expected) size t fit = ap (λ (xs : List ℕ). xs ++ replicate 16 0) (byte_word expected fit.2)
@@ -108,28 +176,113 @@ module _ (rs : List Span) (bases : List ℕ) (staging : ℕ) (count : length bas
   code_stays (ApplyDelta delta dst record_size) = refl
   code_stays (Dualcast src dst dst2) = refl
 
+  -- ---- checksums
+
+  source_goes : (op : ChecksumOp) (size : ℕ) → AllByRecursion (LiesInOne rs) (data_spans.sources op size) → word_value bases staging (source_word rs op) ≡ source_field (relocated_checksum_op (relocated (relocation rs bases)) op)
+  source_goes (Crc src seed) size s = goes src size s.0
+  source_goes (CopyCrc src dst seed) size s = goes src size s.0
+
+  destination_goes : (op : ChecksumOp) (size : ℕ) → AllByRecursion (LiesInOne rs) (data_spans.targets op size) →
+      word_value bases staging (destination_word rs op) ≡ destination_field (relocated_checksum_op (relocated (relocation rs bases)) op)
+  destination_goes (Crc src seed) size t = refl
+  destination_goes (CopyCrc src dst seed) size t = goes dst size t.0
+
+  checksum_code_stays : (op : ChecksumOp) → operands.code_of op ≡ operands.code_of (relocated_checksum_op (relocated (relocation rs bases)) op)
+  checksum_code_stays (Crc src seed) = refl
+  checksum_code_stays (CopyCrc src dst seed) = refl
+
+  seed_moves : (op : ChecksumOp) → seed_of (relocated_checksum_op (relocated (relocation rs bases)) op) ≡ relocated_seed (relocated (relocation rs bases)) (seed_of op)
+  seed_moves (Crc src seed) = refl
+  seed_moves (CopyCrc src dst seed) = refl
+
+  -- bytes 40 to 55 of a checksum whose head says whether its seed is read
+  seed_goes : (head : List ℕ) (seed : Seed) → AllByRecursion (LiesInOne rs) (seed_spans seed) → SeedFits seed → reads_seed head ≡ is_in_memory seed →
+      own_bytes head (seed_word rs seed) (word_value bases staging (seed_word rs seed))
+      ≡ (to_le_bytes w32 (given_value (relocated_seed (relocated (relocation rs bases)) seed)) ++ replicate 4 0)
+      ++ to_le_bytes w64 (seed_address (relocated_seed (relocated (relocation rs bases)) seed))
+  seed_goes head (Given value) s fits told = ap (λ (xs : List ℕ). xs ++ replicate 8 0) (half_word value fits)
+  seed_goes head (At address) s fits told = rw told (ap (λ (n : ℕ). replicate 8 0 ++ to_le_bytes w64 n) (goes address 4 s.0))
+
   -- ---- entries
 
-  pub piece_filled : (fence : Bool) (f : Fields) → IsListed f → LieInOne rs f → filled_entry bases staging (entry_of rs fence f) ≡ spelling (with_fence fence (relocated_fields (relocated (relocation rs bases)) f))
+  own_stays : (head : List ℕ) (op : Op) (value : ℕ) → reads_seed head ≡ false → own_bytes head (own_word rs op) value ≡ to_le_bytes w64 value ++ replicate 8 0
+  own_stays head (Move src dst) value none = refl
+  own_stays head (Fill pattern dst) value none = refl
+  own_stays head (Compare src src2 expected) value none = refl
+  own_stays head (ComparePattern src pattern expected) value none = refl
+  own_stays head (ApplyDelta delta dst record_size) value none = refl
+  own_stays head (Dualcast src dst dst2) value none = rw none refl
+
+  descriptor_filled : (fence : Bool) (d : Descriptor) → LieInOne rs (fields d) → filled_entry bases staging (entry_of rs fence (operation.Descriptor d)) ≡ fenced fence (spelling (relocated_fields (relocated (relocation rs bases)) (fields d)))
   unfolding spelling
-  piece_filled fence f listed lie =
-      let code = code_stays f.op in
-      let at = goes f.record_at 32 lie.1.0 in
-      let first = first_goes f.op f.size lie.0 lie.1.1 in
-      let second = second_goes f.op f.size lie.0 lie.1.1 in
-      let own = own_goes f.op f.size lie.1.1 listed.op_fits in
+  descriptor_filled true d lie =
+      let code = code_stays d.op in
+      let at = goes d.record_at 32 lie.1.0 in
+      let first = first_goes d.op d.size lie.0 lie.1.1 in
+      let second = second_goes d.op d.size lie.0 lie.1.1 in
+      let own : own_bytes (take 8 (fenced true (spelling (fields d)))) (own_word rs d.op) (word_value bases staging (own_word rs d.op)) ++ replicate 8 0
+      ≡ descriptor.own_bytes (relocated_op (relocated (relocation rs bases)) d.op) ++ replicate (24 - own_len (relocated_op (relocated (relocation rs bases)) d.op)) 0 =
+      ap (λ (xs : List ℕ). xs ++ replicate 8 0) (own_stays (take 8 (fenced true (spelling (fields d)))) d.op (word_value bases staging (own_word rs d.op)) (descriptor_reads_none true d)) ∙ own_goes d.op d.size lie.1.1 d.listed.op_fits in
       λ i.
-      to_le_bytes w32 (owner_word f) ++ to_le_bytes w32 (f.flags + (cond fence 0x0001 0) + code i * 2 ^ 24) ++ to_le_bytes w64 (at i) ++ to_le_bytes w64 (first i)
-      ++ to_le_bytes w64 (second i) ++ to_le_bytes w32 f.size ++ to_le_bytes w16 f.int_handle ++ replicate 2 0 ++ own i
+      fenced true (to_le_bytes w32 (owner_word (fields d)) ++ to_le_bytes w32 (d.flags.0 + code i * 2 ^ 24) ++ to_le_bytes w64 (at i) ++ to_le_bytes w64 (first i)
+      ++ to_le_bytes w64 (second i) ++ to_le_bytes w32 d.size ++ to_le_bytes w16 d.int_handle ++ replicate 2 0 ++ own i)
+  descriptor_filled false d lie =
+      let code = code_stays d.op in
+      let at = goes d.record_at 32 lie.1.0 in
+      let first = first_goes d.op d.size lie.0 lie.1.1 in
+      let second = second_goes d.op d.size lie.0 lie.1.1 in
+      let own : own_bytes (take 8 (fenced false (spelling (fields d)))) (own_word rs d.op) (word_value bases staging (own_word rs d.op)) ++ replicate 8 0
+      ≡ descriptor.own_bytes (relocated_op (relocated (relocation rs bases)) d.op) ++ replicate (24 - own_len (relocated_op (relocated (relocation rs bases)) d.op)) 0 =
+      ap (λ (xs : List ℕ). xs ++ replicate 8 0) (own_stays (take 8 (fenced false (spelling (fields d)))) d.op (word_value bases staging (own_word rs d.op)) (descriptor_reads_none false d)) ∙ own_goes d.op d.size lie.1.1 d.listed.op_fits in
+      λ i.
+      to_le_bytes w32 (owner_word (fields d)) ++ to_le_bytes w32 (d.flags.0 + code i * 2 ^ 24) ++ to_le_bytes w64 (at i) ++ to_le_bytes w64 (first i)
+      ++ to_le_bytes w64 (second i) ++ to_le_bytes w32 d.size ++ to_le_bytes w16 d.int_handle ++ replicate 2 0 ++ own i
+
+  checksum_filled : (fence : Bool) (c : Checksum) → PieceLies rs (operation.Checksum c) →
+      filled_entry bases staging (entry_of rs fence (operation.Checksum c)) ≡ fenced fence (checksum_spelling (relocated_checksum (relocated (relocation rs bases)) (checksum_fields c)))
+  unfolding checksum_spelling
+  checksum_filled true c lie =
+      let code = checksum_code_stays c.op in
+      let at = goes c.record_at 32 lie.1.0 in
+      let first = source_goes c.op c.size lie.0 in
+      let second = destination_goes c.op c.size lie.1.1 in
+      let seed = sym (seed_moves c.op) in
+      let own = seed_goes (take 8 (fenced true (checksum_spelling (checksum_fields c)))) (seed_of c.op) lie.0.1 (seed_fits c.op c.listed.op_fits) (checksum_reads_seed true c) in
+      let own' : own_bytes (take 8 (fenced true (checksum_spelling (checksum_fields c)))) (seed_word rs (seed_of c.op)) (word_value bases staging (seed_word rs (seed_of c.op)))
+      ≡ (to_le_bytes w32 (given_field (relocated_checksum_op (relocated (relocation rs bases)) c.op)) ++ replicate 4 0) ++ to_le_bytes w64 (address_field (relocated_checksum_op (relocated (relocation rs bases)) c.op)) =
+      own ∙ ap (λ (x : Seed). (to_le_bytes w32 (given_value x) ++ replicate 4 0) ++ to_le_bytes w64 (seed_address x)) seed in
+      λ i.
+      fenced true (to_le_bytes w32 (checksum_words.owner_word (checksum_fields c)) ++ to_le_bytes w32 (c.flags.0 + code i * 2 ^ 24) ++ to_le_bytes w64 (at i) ++ to_le_bytes w64 (first i)
+      ++ to_le_bytes w64 (second i) ++ to_le_bytes w32 c.size ++ to_le_bytes w16 c.int_handle ++ replicate 2 0 ++ own' i ++ replicate 8 0)
+  checksum_filled false c lie =
+      let code = checksum_code_stays c.op in
+      let at = goes c.record_at 32 lie.1.0 in
+      let first = source_goes c.op c.size lie.0 in
+      let second = destination_goes c.op c.size lie.1.1 in
+      let seed = sym (seed_moves c.op) in
+      let own = seed_goes (take 8 (fenced false (checksum_spelling (checksum_fields c)))) (seed_of c.op) lie.0.1 (seed_fits c.op c.listed.op_fits) (checksum_reads_seed false c) in
+      let own' : own_bytes (take 8 (fenced false (checksum_spelling (checksum_fields c)))) (seed_word rs (seed_of c.op)) (word_value bases staging (seed_word rs (seed_of c.op)))
+      ≡ (to_le_bytes w32 (given_field (relocated_checksum_op (relocated (relocation rs bases)) c.op)) ++ replicate 4 0) ++ to_le_bytes w64 (address_field (relocated_checksum_op (relocated (relocation rs bases)) c.op)) =
+      own ∙ ap (λ (x : Seed). (to_le_bytes w32 (given_value x) ++ replicate 4 0) ++ to_le_bytes w64 (seed_address x)) seed in
+      λ i.
+      to_le_bytes w32 (checksum_words.owner_word (checksum_fields c)) ++ to_le_bytes w32 (c.flags.0 + code i * 2 ^ 24) ++ to_le_bytes w64 (at i) ++ to_le_bytes w64 (first i)
+      ++ to_le_bytes w64 (second i) ++ to_le_bytes w32 c.size ++ to_le_bytes w16 c.int_handle ++ replicate 2 0 ++ own' i ++ replicate 8 0
+
+  pub piece_filled : (fence : Bool) (o : Operation) → PieceLies rs o → filled_entry bases staging (entry_of rs fence o) ≡ fenced fence (relocated_spelling (relocated (relocation rs bases)) o)
+  piece_filled fence (operation.Descriptor d) lie = descriptor_filled fence d lie
+  piece_filled fence (operation.Checksum c) lie = checksum_filled fence c lie
 
 -- the entry of a batch has the bytes of its descriptor
-pub batch_filled : (bases : List ℕ) (staging total : ℕ) (place : Place) (group : Group) (to : ℕ → ℕ) (fs : List Fields) →
-    filled_entry bases staging (batch_entry_of total place group fs)
-    ≡ batch_spelling (take 4 (list_spelling (map (relocated_fields to) fs))) (staging + 64 * total + 32 * place.batches) (staging + 64 * place.batched) (length group)
-unfolding spelling batch_spelling
+pub batch_filled : (bases : List ℕ) (staging total : ℕ) (place : Place) (group : Group) (to : ℕ → ℕ) (ps : List Operation) →
+    filled_entry bases staging (batch_entry_of total place group ps)
+    ≡ batch_spelling (take 4 (flat_map (relocated_spelling to) ps)) (staging + 64 * total + 32 * place.batches) (staging + 64 * place.batched) (length group)
+unfolding spelling checksum_spelling batch_spelling
 batch_filled bases staging total place group to [] =
     let sum : staging + (64 * total + 32 * place.batches) ≡ staging + 64 * total + 32 * place.batches = omega arith in
     λ i. batch_spelling [] (sum i) (staging + 64 * place.batched) (length group)
-batch_filled bases staging total place group to (f ∷ fs) =
+batch_filled bases staging total place group to (operation.Descriptor d ∷ ps) =
     let sum : staging + (64 * total + 32 * place.batches) ≡ staging + 64 * total + 32 * place.batches = omega arith in
-    λ i. batch_spelling (take 4 (spelling f)) (sum i) (staging + 64 * place.batched) (length group)
+    λ i. batch_spelling (take 4 (spelling (fields d))) (sum i) (staging + 64 * place.batched) (length group)
+batch_filled bases staging total place group to (operation.Checksum c ∷ ps) =
+    let sum : staging + (64 * total + 32 * place.batches) ≡ staging + 64 * total + 32 * place.batches = omega arith in
+    λ i. batch_spelling (take 4 (checksum_spelling (checksum_fields c))) (sum i) (staging + 64 * place.batched) (length group)

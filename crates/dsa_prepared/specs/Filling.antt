@@ -9,8 +9,10 @@ use Rattle.dsa_settings.specs.declared.setting.Setting.TheVariants.{Staging as A
 use Rattle.dsa_settings.specs.Outside.{Allows}
 use Rattle.dsa_settings.specs.Staging.{staging_area}
 use Rattle.dsa_calls.specs.Planned.{Submission}
+use Rattle.dsa_operations.specs.declared.operation.Operation.{Operation}
+use Rattle.dsa_lists.specs.Submissions.{OperationSubmission}
 use Rattle.dsa_prepared.specs.Relocated.{relocated_fields}
-use Rattle.dsa_prepared.specs.Listed.{PlansWithFencesOf}
+use Rattle.dsa_prepared.specs.Listed.{PlansRelocatedAny, PlansWithFencesOf}
 use Rattle.dsa_prepared.specs.Regions.{relocated}
 use Rattle.dsa_prepared.specs.Submissions.{staged_at}
 use Rattle.dsa_prepared.specs.declared.fault.FillFault.{FillFault}
@@ -163,9 +165,21 @@ abbrev pub IsPlannedAnew : List Span → List ℕ → ℕ → Limits → List �
 IsPlannedAnew rs bases staging s list ds p =
     PlansWithFencesOf list (staged_at staging s) (map (relocated_fields (relocated (relocation rs bases))) (map fields ds)) p
 
+-- the same of a list that may have checksums
+abbrev pub IsAnyPlannedAnew : List Span → List ℕ → ℕ → Limits → List ℕ → List Operation → OperationSubmission → Type 0
+IsAnyPlannedAnew rs bases staging s list operations p =
+    PlansRelocatedAny list (relocated (relocation rs bases)) operations (staged_at staging s) p
+
 -- the buffers have at their front what planning the list on the new buffers answers, and their rest is unchanged
 pub record IsPlannedInto (rs : List Span) (bases : List ℕ) (staging : ℕ) (s : Limits) (list : List ℕ) (ds : List Descriptor) (portal new_portal area new_area : List ℕ) : Type 0 where
   pub submission : Submission
   pub planned : IsPlannedAnew rs bases staging s list ds submission
+  pub portal_is : new_portal ≡ written submission.portal portal
+  pub staging_is : new_area ≡ written submission.staging area
+
+-- the same of a list that may have checksums
+pub record IsAnyPlannedInto (rs : List Span) (bases : List ℕ) (staging : ℕ) (s : Limits) (list : List ℕ) (operations : List Operation) (portal new_portal area new_area : List ℕ) : Type 0 where
+  pub submission : OperationSubmission
+  pub planned : IsAnyPlannedAnew rs bases staging s list operations submission
   pub portal_is : new_portal ≡ written submission.portal portal
   pub staging_is : new_area ≡ written submission.staging area

@@ -1,6 +1,6 @@
 -- When a relocated descriptor is one that a list may hold.
 use Rattle.std.specs.Prelude.{ℕ, ◌≡◌, ◌%◌, ◌<◌, ⊤, List, map, Ok}
-use Rattle.std.specs.List.{AllByRecursion}
+use Rattle.std.specs.List.{AllByRecursion, flat_map}
 use Rattle.dsa_descriptor.specs.declared.descriptor.Descriptor.{Descriptor}
 use Rattle.dsa_descriptor.specs.declared.op.Op.{Op}
 use Rattle.dsa_descriptor.specs.declared.op.Op.TheVariants.{Move, Fill, Compare, ComparePattern, ApplyDelta, Dualcast}
@@ -14,7 +14,11 @@ use Rattle.dsa_plan.specs.Settings.{Limits}
 use Rattle.dsa_calls.specs.Lists.{IsListOf}
 use Rattle.dsa_calls.specs.Fenced.{HasNoBarriers, IsSubmissionWith, PlansFenced}
 use Rattle.dsa_calls.specs.Planned.{Submission, Plans}
-use Rattle.dsa_prepared.specs.Relocated.{relocated_op, relocated_fields}
+use Rattle.dsa_operations.specs.declared.operation.Operation.{Operation}
+use Rattle.dsa_operations.specs.declared.operation.Operation.TheVariants as operation
+use Rattle.dsa_lists.specs.AnyLists.{PlansAnyList}
+use Rattle.dsa_lists.specs.Submissions.{OperationSubmission}
+use Rattle.dsa_prepared.specs.Relocated.{relocated_op, relocated_fields, relocated_spelling}
 use Rattle.dsa_prepared.specs.Regions.{Region, base_span, new_span, relocated, AreDisjoint, LieInOne}
 use Rattle.dsa_prepared.specs.Submissions.{staged_at, with_pieces, MayRelocate}
 
@@ -34,6 +38,11 @@ pub record IsAlignedAt (to : ℕ → ℕ) (f : Fields) : Type 0 where
   pub delta_aligned : HasAlignedDelta to f.op
   pub low_bits : HasEqualLowBits (relocated_op to f.op)
 
+-- the same of an operation; a checksum's record alone has to be aligned
+abbrev pub IsAlignedThere : (ℕ → ℕ) → Operation → Type 0
+IsAlignedThere to (operation.Descriptor d) = IsAlignedAt to (fields d)
+IsAlignedThere to (operation.Checksum c) = to c.record_at % 32 ≡ 0
+
 -- a listed descriptor whose spans each lie in one region is listed after relocation, if it is aligned there
 abbrev pub ListedRelocates : Type 0
 ListedRelocates =
@@ -50,6 +59,15 @@ pub record SpellWithFencesOf (list : List ℕ) (fs : List Fields) (bytes : List 
 pub record PlansWithFencesOf (list : List ℕ) (s : Limits) (fs : List Fields) (p : Submission) : Type 0 where
   pub fenced : (bytes : List ℕ) → SpellWithFencesOf list fs bytes → PlansFenced bytes s (Ok p)
   pub plain : HasNoBarriers list → Plans (list_spelling fs) s (Ok p)
+
+-- these bytes spell the operations at their relocated addresses, with the fences of this list
+pub record SpellRelocated (list : List ℕ) (to : ℕ → ℕ) (operations : List Operation) (bytes : List ℕ) : Type 0 where
+  pub spelt : unfenced_list bytes ≡ flat_map (relocated_spelling to) operations
+  pub fences : fences_of bytes ≡ fences_of list
+
+-- planning such bytes answers this submission
+abbrev pub PlansRelocatedAny : List ℕ → (ℕ → ℕ) → List Operation → Limits → OperationSubmission → Type 0
+PlansRelocatedAny list to operations s p = (bytes : List ℕ) → SpellRelocated list to operations bytes → PlansAnyList bytes s (Ok p)
 
 -- planning the relocated list answers the relocated submission
 abbrev pub PlansRelocate : Type 0

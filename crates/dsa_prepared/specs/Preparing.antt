@@ -1,19 +1,23 @@
 -- When a list can be prepared, and why it is refused.
 use Rattle.std.specs.Prelude.{◌≡◌, ◌⊎◌, ℕ, suc, ◌+◌, ◌<◌, ◌≤◌, List, [], ◌∷◌, length, map, slice_get, slice_index_or, Some, Ok, Err}
-use Rattle.std.specs.List.{AllByRecursion}
+use Rattle.std.specs.List.{AllByRecursion, flat_map}
 use Rattle.dsa_descriptor.specs.declared.descriptor.Descriptor.{Descriptor}
 use Rattle.dsa_descriptor.specs.declared.span.Span.{Span}
 use Rattle.dsa_descriptor.specs.Descriptors.{fields}
-use Rattle.dsa_descriptor.specs.Fields.{Fields}
 use Rattle.dsa_descriptor.specs.Spans.{span, IsAddressable}
 use Rattle.dsa_plan.specs.Settings.{Limits, AreInLimits}
-use Rattle.dsa_splitter.specs.Pieces.{all_pieces}
-use Rattle.dsa_splitter.specs.Rules.{IsSplit}
+use Rattle.dsa_plan.specs.Plan.{Plan as GroupPlan}
 use Rattle.dsa_descriptor.specs.Fences.{barriers_of, unfenced_list}
 use Rattle.dsa_calls.specs.Fenced.{IsSubmissionWith, PlansFenced}
 use Rattle.dsa_calls.specs.Lists.{IsListOf}
 use Rattle.dsa_calls.specs.Planned.{Submission}
-use Rattle.dsa_prepared.specs.Regions.{Region, LiesWhole}
+use Rattle.dsa_operations.specs.declared.operation.Operation.{Operation}
+use Rattle.dsa_operations.specs.declared.operation.Operation.TheVariants as operation
+use Rattle.dsa_lists.specs.AnyLists.{OfAnyList, PlansAnyList}
+use Rattle.dsa_operations.specs.Operations.{spelling_of}
+use Rattle.dsa_lists.specs.Submissions.{AreReady, IsOperationSubmission, OperationSubmission}
+use Rattle.dsa_calls.specs.declared.fault.PlanFault.{PlanFault}
+use Rattle.dsa_prepared.specs.Regions.{Region, OperationLies}
 use Rattle.dsa_prepared.specs.declared.fault.PrepareFault.{PrepareFault}
 use Rattle.dsa_prepared.specs.declared.fault.PrepareFault.TheVariants.{Plan, RegionWrap, RegionOrder, Outside}
 use Rattle.dsa_prepared.specs.Templates.{Template, template_of}
@@ -48,21 +52,49 @@ relocation (r ∷ rs) (base ∷ bases) = record { base = r.first; len = r.len; n
 
 -- ---- what is prepared
 
--- This is the template of the submission that planning the list answers: the bytes without their fences spell these
--- operations, this is their submission with the fences as barriers, and each range of each operation lies in one of the
--- regions.
-pub record IsPreparedOf (list : List ℕ) (s : Limits) (rs : List Span) (ds : List Descriptor) (t : Template) : Type 0 where
+-- operations are kept so: each of their ranges lies in one of the regions, and this is the template of them, their pieces and
+-- the plan
+pub record IsKept (s : Limits) (rs : List Span) (operations pieces : List Operation) (plan : GroupPlan) (t : Template) : Type 0 where
   pub limits : AreInLimits s
+  pub regions : AreRegions rs
+  pub lie : AllByRecursion (OperationLies rs s.greatest_transfer) operations
+  pub template : t ≡ template_of rs operations plan pieces
+
+-- This is the template of the submission that planning the list answers: the bytes without their fences spell these
+-- descriptors, this is their submission with the fences as barriers, and it is kept.
+pub record IsPreparedOf (list : List ℕ) (s : Limits) (rs : List Span) (ds : List Descriptor) (t : Template) : Type 0 where
   pub listed : IsListOf (unfenced_list list) ds
   pub submission : Submission
   pub planned : IsSubmissionWith (barriers_of list) s (map fields ds) submission
-  pub regions : AreRegions rs
-  pub lie : AllByRecursion (LiesWhole rs s.greatest_transfer) (map fields ds)
-  pub template : t ≡ template_of rs (map fields ds) submission.plan (map fields submission.pieces)
+  pub kept : IsKept s rs (map operation.Descriptor ds) (map operation.Descriptor submission.pieces) submission.plan t
 
 -- and the plan costs this
 abbrev pub IsCostedOf : List ℕ → Limits → List Span → List Descriptor → Template → ℕ → Type 0
 IsCostedOf list s rs ds t cost = (prepared : IsPreparedOf list s rs ds t) × (cost ≡ prepared.submission.cost)
+
+-- the same of operations, which are planned as they are
+pub record IsPreparedOfOperations (list : List ℕ) (s : Limits) (rs : List Span) (operations : List Operation) (t : Template) : Type 0 where
+  pub ready : AreReady list s operations
+  pub submission : OperationSubmission
+  pub planned : IsOperationSubmission s operations (barriers_of list) submission
+  pub kept : IsKept s rs operations operations submission.plan t
+
+-- and the plan costs this
+abbrev pub AreCostedOperations : List ℕ → Limits → List Span → List Operation → Template → ℕ → Type 0
+AreCostedOperations list s rs operations t cost =
+    (prepared : IsPreparedOfOperations list s rs operations t) × (cost ≡ prepared.submission.cost)
+
+-- a list of descriptors is prepared as such, any other as a list of operations (this project's choice, as it is planned so)
+abbrev pub IsAnyPreparedOf : List ℕ → Limits → List Span → List Operation → Template → Type 0
+IsAnyPreparedOf list s rs operations t =
+    OfAnyList list ((ds : List Descriptor) × IsPreparedOf list s rs ds t × (operations ≡ map operation.Descriptor ds))
+    (IsPreparedOfOperations list s rs operations t)
+
+-- and the plan costs this
+abbrev pub IsAnyCostedOf : List ℕ → Limits → List Span → List Operation → Template → ℕ → Type 0
+IsAnyCostedOf list s rs operations t cost =
+    OfAnyList list ((ds : List Descriptor) × IsCostedOf list s rs ds t cost × (operations ≡ map operation.Descriptor ds))
+    (AreCostedOperations list s rs operations t cost)
 
 -- ---- refusals
 
@@ -74,40 +106,46 @@ IsRegionFault rs (RegionOrder i) =
     (i < length rs) × ((j : ℕ) → j < i → IsRegionAt rs j) × IsAddressable (region_at rs i) × ¬ FollowsAt rs i
 IsRegionFault rs (Outside i) = ⊥
 
--- the ranges of each operation before that number lie in one region each, and those of this one do not
-pub record IsFirstOutside (rs : List Span) (greatest : ℕ) (fs : List Fields) (i : ℕ) : Type 0 where
-  pub operation : Fields
-  pub there : slice_get fs i ≡ Some operation
-  pub outside : ¬ LiesWhole rs greatest operation
-  pub before : (j : ℕ) (f : Fields) → j < i → slice_get fs j ≡ Some f → LiesWhole rs greatest f
+-- each operation before that number lies in the regions, and this one does not
+pub record IsFirstOutside (rs : List Span) (greatest : ℕ) (operations : List Operation) (i : ℕ) : Type 0 where
+  pub operation : Operation
+  pub there : slice_get operations i ≡ Some operation
+  pub outside : ¬ OperationLies rs greatest operation
+  pub before : (j : ℕ) (o : Operation) → j < i → slice_get operations j ≡ Some o → OperationLies rs greatest o
 
 -- The first cause why a list is not prepared, in this order: what planning it refuses; the least region that goes past
 -- 2^64, or else begins before the one before it has ended; the least operation that has a range, or the row of records, in
--- no one region.
+-- no one region. `Refuses`, `Planned` and `Spells` say what planning refuses of the list, that it answers, and which
+-- operations the bytes spell.
+abbrev pub IsFirstCauseBy : (PlanFault → Type 0) → Type 0 → (List Operation → Type 0) → Limits → List Span → PrepareFault → Type 0
+IsFirstCauseBy Refuses Planned Spells s rs (Plan fault) = Refuses fault
+IsFirstCauseBy Refuses Planned Spells s rs (RegionWrap i) = Planned × IsRegionFault rs (RegionWrap i)
+IsFirstCauseBy Refuses Planned Spells s rs (RegionOrder i) = Planned × IsRegionFault rs (RegionOrder i)
+IsFirstCauseBy Refuses Planned Spells s rs (Outside i) =
+    Planned × AreRegions rs × ((operations : List Operation) × Spells operations × IsFirstOutside rs s.greatest_transfer operations i)
+
+-- the bytes without their fences spell these operations, which are descriptors of one owner
+abbrev pub SpellDescriptors : List ℕ → List Operation → Type 0
+SpellDescriptors list operations = (ds : List Descriptor) × IsListOf (unfenced_list list) ds × (operations ≡ map operation.Descriptor ds)
+
+-- the first cause why a list of descriptors is not prepared
 abbrev pub IsFirstPrepareFault : List ℕ → Limits → List Span → PrepareFault → Type 0
-IsFirstPrepareFault list s rs (Plan fault) = PlansFenced list s (Err fault)
-IsFirstPrepareFault list s rs (RegionWrap i) = ((p : Submission) × PlansFenced list s (Ok p)) × IsRegionFault rs (RegionWrap i)
-IsFirstPrepareFault list s rs (RegionOrder i) = ((p : Submission) × PlansFenced list s (Ok p)) × IsRegionFault rs (RegionOrder i)
-IsFirstPrepareFault list s rs (Outside i) =
-    ((p : Submission) × PlansFenced list s (Ok p)) × AreRegions rs
-    × ((ds : List Descriptor) × IsListOf (unfenced_list list) ds × IsFirstOutside rs s.greatest_transfer (map fields ds) i)
+IsFirstPrepareFault list s rs fault =
+    IsFirstCauseBy (λ f. PlansFenced list s (Err f)) ((p : Submission) × PlansFenced list s (Ok p)) (SpellDescriptors list) s rs fault
+
+-- the bytes without their fences spell these operations
+abbrev pub SpellOperations : List ℕ → List Operation → Type 0
+SpellOperations list operations = unfenced_list list ≡ flat_map spelling_of operations
+
+-- the first cause why a list that may have checksums is not prepared
+abbrev pub IsFirstAnyPrepareFault : List ℕ → Limits → List Span → PrepareFault → Type 0
+IsFirstAnyPrepareFault list s rs fault =
+    IsFirstCauseBy (λ f. PlansAnyList list s (Err f)) ((p : OperationSubmission) × PlansAnyList list s (Ok p)) (SpellOperations list) s rs fault
 
 -- ---- for private clauses
 
--- these are the pieces that the operations are split into
-pub record IsSplitInto (s : Limits) (ds pieces : List Descriptor) : Type 0 where
-  pub split : IsSplit s.greatest_transfer s.staging (map fields ds)
-  pub pieces_are : map fields pieces ≡ all_pieces (map fields ds) s.greatest_transfer
-
--- this is the template of the submission of these operations, each range of which lies in one of the regions
-pub record IsKept (s : Limits) (rs : List Span) (ds : List Descriptor) (p : Submission) (t : Template) : Type 0 where
-  pub limits : AreInLimits s
-  pub regions : AreRegions rs
-  pub lie : AllByRecursion (LiesWhole rs s.greatest_transfer) (map fields ds)
-  pub template : t ≡ template_of rs (map fields ds) p.plan (map fields p.pieces)
-
 -- the first cause why planned operations are not kept
-abbrev pub IsPlaceFault : Limits → List Span → List Descriptor → PrepareFault → Type 0
-IsPlaceFault s rs ds fault =
+abbrev pub IsPlaceFault : Limits → List Span → List Operation → PrepareFault → Type 0
+IsPlaceFault s rs operations fault =
     IsRegionFault rs fault
-    ⊎ ((i : ℕ) × (fault ≡ Outside i) × AreRegions rs × IsFirstOutside rs s.greatest_transfer (map fields ds) i)
+    ⊎ ((i : ℕ) × (fault ≡ Outside i) × AreRegions rs × IsFirstOutside rs s.greatest_transfer operations i)

@@ -1,11 +1,15 @@
 -- Regions of memory, and where a relocation puts their addresses.
 use Rattle.std.specs.Prelude.{ℕ, ◌+◌, ◌-◌, ◌<◌, ◌≤◌, ⊤, Bool, List, [], ◌∷◌, ◌⊎◌, ◌&&◌, map, nat_le, nat_lt, if◌then◌else◌}
 use Rattle.std.specs.List.{AllByRecursion}
+use Rattle.dsa_descriptor.specs.Descriptors.{fields}
 use Rattle.dsa_descriptor.specs.Fields.{Fields}
 use Rattle.dsa_descriptor.specs.Data.{sources, targets}
 use Rattle.dsa_splitter.specs.Operations.{IsSplittable}
 use Rattle.dsa_splitter.specs.Pieces.{row_span}
 use Rattle.dsa_ranges.specs.Ranges.{read_spans, written_spans}
+use Rattle.dsa_operations.specs.declared.operation.Operation.{Operation}
+use Rattle.dsa_operations.specs.declared.operation.Operation.TheVariants as operation
+use Rattle.dsa_operations.specs.Operations.{reads_of, writes_of}
 use Rattle.dsa_descriptor.specs.declared.span.Span.{Span}
 use Rattle.dsa_descriptor.specs.Spans.{span, InSome, ApartFrom}
 
@@ -69,3 +73,23 @@ pub record LiesWhole (rs : List Span) (greatest : ℕ) (f : Fields) : Type 0 whe
   pub into : AllByRecursion (LiesInOne rs) (targets f.op f.size)
   pub row : LiesInOne rs (row_span f greatest)
   pub splittable : IsSplittable f.op f.size greatest
+
+-- ---- operations of a list that may have checksums
+
+-- each span that a piece reads or writes lies in one
+abbrev pub PieceLies : List Span → Operation → Type 0
+PieceLies rs piece = AllByRecursion (LiesInOne rs) (reads_of piece) × AllByRecursion (LiesInOne rs) (writes_of piece)
+
+-- the same of each piece of a list
+abbrev pub AllPiecesLie : List Span → List Operation → Type 0
+AllPiecesLie rs pieces = AllByRecursion (PieceLies rs) pieces
+
+-- an operation has each whole range, and the row of the records of its pieces, in one region; a checksum is one piece
+abbrev pub OperationLies : List Span → ℕ → Operation → Type 0
+OperationLies rs greatest (operation.Descriptor d) = LiesWhole rs greatest (fields d)
+OperationLies rs greatest (operation.Checksum c) = PieceLies rs (operation.Checksum c)
+
+-- a descriptor that is split into pieces of at most `greatest` bytes can be; no checksum is split
+abbrev pub IsOneOrSplittable : ℕ → Operation → Type 0
+IsOneOrSplittable greatest (operation.Descriptor d) = IsSplittable d.op d.size greatest
+IsOneOrSplittable greatest (operation.Checksum c) = ⊤

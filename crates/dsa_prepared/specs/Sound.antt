@@ -1,13 +1,21 @@
 -- What the code keeps of a prepared submission, so that filling it is safe. Only private clauses cite these.
-use Rattle.std.specs.Prelude.{◌≡◌, ◌⊎◌, ⊤, ℕ, ◌+◌, ◌*◌, ◌^◌, ◌<◌, ◌≤◌, All, List, ◌++◌, drop, length, slice_get, slice_index, take, Some}
+use Rattle.std.specs.Prelude.{◌≡◌, ◌⊎◌, ⊤, ℕ, ◌+◌, ◌*◌, ◌^◌, ◌<◌, ◌≤◌, All, List, ◌++◌, drop, length, map, slice_get, slice_index, take, Some}
+use Rattle.std.specs.List.{AllByRecursion}
+use Rattle.dsa_descriptor.specs.declared.descriptor.Descriptor.{Descriptor}
 use Rattle.dsa_descriptor.specs.declared.span.Span.{Span}
+use Rattle.dsa_descriptor.specs.Descriptors.{fields}
 use Rattle.dsa_descriptor.specs.Pieces.{most_pieces}
-use Rattle.dsa_plan.specs.Plan.{Group, Plan}
+use Rattle.dsa_plan.specs.Plan.{Group, Plan, piece_count}
+use Rattle.dsa_plan.specs.Settings.{Limits}
+use Rattle.dsa_splitter.specs.Pieces.{all_pieces}
+use Rattle.dsa_splitter.specs.Rules.{IsSplit}
+use Rattle.dsa_operations.specs.declared.operation.Operation.{Operation}
 use Rattle.dsa_prepared.specs.declared.word.Word.{Word}
 use Rattle.dsa_prepared.specs.declared.word.Word.TheVariants.{InRegion, InStaging, Fixed}
 use Rattle.dsa_prepared.specs.declared.entry.Entry.{Entry}
 use Rattle.dsa_prepared.specs.declared.tie.Tie.{Tie}
 use Rattle.dsa_prepared.specs.Entries.{filled}
+use Rattle.dsa_prepared.specs.Regions.{AllPiecesLie, IsOneOrSplittable, OperationLies}
 use Rattle.dsa_prepared.specs.Templates.{Template}
 use Rattle.dsa_prepared.specs.Preparing.{region_at}
 
@@ -67,9 +75,24 @@ pub record IsSound (t : Template) : Type 0 where
 
 -- ---- preparing
 
+-- these are the pieces that the operations are split into
+pub record IsSplitInto (s : Limits) (ds pieces : List Descriptor) : Type 0 where
+  pub split : IsSplit s.greatest_transfer s.staging (map fields ds)
+  pub pieces_are : map fields pieces ≡ all_pieces (map fields ds) s.greatest_transfer
+
 -- each group has a piece
 abbrev pub AreNonempty : Plan → Type 0
 AreNonempty plan = (number : ℕ) (group : Group) → slice_get plan number ≡ Some group → 0 < length group
+
+-- operations whose pieces, as they were planned, can be kept in regions where the operations lie
+pub record CanBeKept (s : Limits) (operations pieces : List Operation) (plan : Plan) : Type 0 where
+  pub splittable : All (IsOneOrSplittable s.greatest_transfer) operations
+  pub lie :
+      0 < s.greatest_transfer → (rs : List Span) → AllByRecursion (OperationLies rs s.greatest_transfer) operations →
+      AllPiecesLie rs operations × AllPiecesLie rs pieces
+  pub covers : piece_count plan ≡ length pieces
+  pub few : length pieces ≤ most_pieces
+  pub nonempty : AreNonempty plan
 
 -- ---- filling
 

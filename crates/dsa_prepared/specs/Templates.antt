@@ -4,7 +4,8 @@ use Rattle.std.specs.List.{flat_map}
 use Rattle.dsa_descriptor.specs.declared.op.Op.{Op}
 use Rattle.dsa_descriptor.specs.declared.op.Op.TheVariants.{Move, Fill, Compare, ComparePattern, ApplyDelta, Dualcast}
 use Rattle.dsa_descriptor.specs.declared.span.Span.{Span}
-use Rattle.dsa_descriptor.specs.Fields.{Fields}
+use Rattle.dsa_operations.specs.declared.operation.Operation.{Operation}
+use Rattle.dsa_operations.specs.declared.operation.Operation.TheVariants as operation
 use Rattle.dsa_plan.specs.Plan.{Group, Plan}
 use Rattle.dsa_plan.specs.Emission.{is_batch, batch_count, batched_count, place_of}
 use Rattle.dsa_emission.specs.declared.place.Place.{Place}
@@ -49,24 +50,24 @@ gathered part (suc n) = gathered part n ++ part n
 -- ---- entries
 
 -- the entry of a group: of its piece, or of its batch
-abbrev pub group_entries : List Span → ℕ → Place → Group → List Fields → List Entry
-group_entries rs total place group fs =
+abbrev pub group_entries : List Span → ℕ → Place → Group → List Operation → List Entry
+group_entries rs total place group pieces =
     if is_batch group
-    then batch_entry_of total place group fs ∷ []
-    else map (entry_of rs Bool.false) (take (length group) (drop place.start fs))
+    then batch_entry_of total place group pieces ∷ []
+    else map (entry_of rs Bool.false) (take (length group) (drop place.start pieces))
 
 -- what a group has in the staging area
-abbrev pub group_staged : List Span → Place → Group → List Fields → List Entry
-group_staged rs place group fs = if is_batch group then fenced_entries rs group (drop place.start fs) else []
+abbrev pub group_staged : List Span → Place → Group → List Operation → List Entry
+group_staged rs place group pieces = if is_batch group then fenced_entries rs group (drop place.start pieces) else []
 
 -- the entries of the portal, group by group
-abbrev pub portal_entries : List Span → Plan → List Fields → List Entry
-portal_entries rs plan fs =
-    gathered (λ number. group_entries rs (batched_count plan) (place_of plan number) (slice_index_or plan number []) fs) (length plan)
+abbrev pub portal_entries : List Span → Plan → List Operation → List Entry
+portal_entries rs plan pieces =
+    gathered (λ number. group_entries rs (batched_count plan) (place_of plan number) (slice_index_or plan number []) pieces) (length plan)
 
 -- the entries of the staging area, group by group
-abbrev pub staging_entries : List Span → Plan → List Fields → List Entry
-staging_entries rs plan fs = gathered (λ number. group_staged rs (place_of plan number) (slice_index_or plan number []) fs) (length plan)
+abbrev pub staging_entries : List Span → Plan → List Operation → List Entry
+staging_entries rs plan pieces = gathered (λ number. group_staged rs (place_of plan number) (slice_index_or plan number []) pieces) (length plan)
 
 -- ---- alignment
 
@@ -84,17 +85,18 @@ op_asked rs units (ApplyDelta delta dst record_size) = raised units (place_in rs
 op_asked rs units (Dualcast src dst dst2) = units
 
 -- and after a completion record has to be a multiple of 32 (specification 341204, restrictions)
-abbrev pub asked : List Span → List ℕ → Fields → List ℕ
-asked rs units f = op_asked rs (raised units (place_in rs f.record_at).0 32) f.op
+abbrev pub asked : List Span → List ℕ → Operation → List ℕ
+asked rs units (operation.Descriptor d) = op_asked rs (raised units (place_in rs d.record_at).0 32) d.op
+asked rs units (operation.Checksum c) = raised units (place_in rs c.record_at).0 32
 
 -- the units after these operations, from given ones
-abbrev pub units_from : List Span → List ℕ → List Fields → List ℕ
+abbrev pub units_from : List Span → List ℕ → List Operation → List ℕ
 units_from rs units [] = units
-units_from rs units (f ∷ fs) = units_from rs (asked rs units f) fs
+units_from rs units (o ∷ os) = units_from rs (asked rs units o) os
 
 -- the units that operations require, from 1 for each region
-abbrev pub units_of : List Span → List Fields → List ℕ
-units_of rs fs = units_from rs (replicate (length rs) 1) fs
+abbrev pub units_of : List Span → List Operation → List ℕ
+units_of rs operations = units_from rs (replicate (length rs) 1) operations
 
 -- the low 12 bits of a dualcast's destinations have to be equal
 abbrev pub op_ties : List Span → Op → List Tie
@@ -112,14 +114,19 @@ op_ties rs (Dualcast src dst dst2) =
     }
     ∷ []
 
+-- the ties of an operation; a checksum has none
+abbrev pub tied : List Span → Operation → List Tie
+tied rs (operation.Descriptor d) = op_ties rs d.op
+tied rs (operation.Checksum c) = []
+
 -- the ties of all operations
-abbrev pub ties_of : List Span → List Fields → List Tie
-ties_of rs fs = flat_map (λ f. op_ties rs f.op) fs
+abbrev pub ties_of : List Span → List Operation → List Tie
+ties_of rs operations = flat_map (tied rs) operations
 
 -- ---- all of it
 
 -- the template of operations, their pieces and the plan of these; pieces are aligned if their operations are
-abbrev pub template_of : List Span → List Fields → Plan → List Fields → Template
+abbrev pub template_of : List Span → List Operation → Plan → List Operation → Template
 template_of rs operations plan pieces =
     template rs (units_of rs operations) (ties_of rs operations) (portal_entries rs plan pieces) (staging_entries rs plan pieces) (batch_count plan) (length pieces)
 

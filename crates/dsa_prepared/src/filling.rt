@@ -3,14 +3,15 @@
 ghost use Rattle.std.specs.Prelude.{◌≡◌, ◌⊎◌, ℕ, ◌+◌, ◌*◌, ◌%◌, ◌<◌, ◌≤◌, ◌↔◌, ◌++◌, All, drop, length, List, map, MatchOption, IsTrue, IfOk, IfErr, Err, replicate, take};
 ghost use Rattle.dsa_descriptor.specs.declared.descriptor.Descriptor.{Descriptor};
 ghost use Rattle.dsa_descriptor.specs.Spans.{Apart};
+ghost use Rattle.dsa_operations.specs.declared.operation.Operation.{Operation};
 ghost use Rattle.dsa_plan.specs.Settings.{Limits};
 ghost use Rattle.dsa_settings.specs.Staging.{staging_area};
 ghost use Rattle.dsa_prepared.specs.declared.fault.FillFault.{FillFault};
 ghost use Rattle.dsa_prepared.specs.Rows.{AreOrigins, ArePrepared, HasKinds, HaveHeader, entry_in, header_word, region_in, row_at, template_in, tie_in, unit_in};
 ghost use Rattle.dsa_prepared.specs.Sound.{ArePut, AreUnits, HasValues, IsUnit};
 ghost use Rattle.dsa_prepared.specs.Templates.{filled_portal, filled_staging};
-ghost use Rattle.dsa_prepared.specs.Preparing.{IsPreparedOf, region_at};
-ghost use Rattle.dsa_prepared.specs.Filling.{AllBelow, IsFirstNot, LiesBetween, FitsAt, IsAlignedBase, IsTied, IsTiedAt, AreApartAt, IsApartFromEarlier, IsClearAt, HasBases, HasRoom, HasBuffers, CanFill, IsFirstFillFault, IsPlannedInto, new_region, tie_at, written};
+ghost use Rattle.dsa_prepared.specs.Preparing.{IsAnyPreparedOf, IsPreparedOf, region_at};
+ghost use Rattle.dsa_prepared.specs.Filling.{AllBelow, IsFirstNot, LiesBetween, FitsAt, IsAlignedBase, IsTied, IsTiedAt, AreApartAt, IsApartFromEarlier, IsClearAt, HasBases, HasRoom, HasBuffers, CanFill, IsAnyPlannedInto, IsFirstFillFault, IsPlannedInto, new_region, tie_at, written};
 
 use crate::fault::FillFault;
 use crate::reading::{header_word, portal_rows, region_rows, staging_rows, tie_rows};
@@ -414,7 +415,7 @@ fn first_base_fault(rows: &[Row], bases: &[u64], staging: u64) -> Option<FillFau
 
 /// Writes what is submitted if the regions have these bases and the staging area this address: the portal's bytes at
 /// the front of `portal`, those of the staging area at the front of `area`. They are those that
-/// [`plan_fenced_list`](dsa_calls::plan_fenced_list()) returns for the list on the new buffers. The rows are prepared:
+/// [`plan_any_list`](dsa_lists::plan_any_list()) returns for the list on the new buffers. The rows are prepared:
 /// [`are_prepared`](crate::are_prepared) tests that. Nothing is allocated.
 ///
 /// # Errors
@@ -438,6 +439,11 @@ pub fn fill_rows(
         IsPreparedOf list s (template_in rows.now).regions ds (template_in rows.now) → IfOk result
         (λ _. IsPlannedInto (template_in rows.now).regions bases.now staging s list ds
         portal.old portal.new area.old area.new) }
+    // The same of a list that may have checksums.
+    ensures planned_any { (list : List ℕ) (s : Limits) (operations : List Operation) →
+        IsAnyPreparedOf list s (template_in rows.now).regions operations
+        (template_in rows.now) → IfOk result (λ _. IsAnyPlannedInto (template_in rows.now).regions
+        bases.now staging s list operations portal.old portal.new area.old area.new) }
     ensures can { IfOk result (λ _. CanFill (template_in rows.now) bases.now staging) }
     // A refusal is the first cause, and if there is a cause, it is the answer.
     ensures fault { IfErr result (IsFirstFillFault (template_in rows.now) bases.now staging

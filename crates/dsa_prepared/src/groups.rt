@@ -1,10 +1,9 @@
 //! The entries of a plan's groups.
 
-ghost use Rattle.std.specs.Prelude.{◌≡◌, ℕ, ◌+◌, ◌*◌, ◌≤◌, ◌<◌, ◌++◌, ◌∷◌, [], take, drop, length, map, IfOk, OnOk, replicate, if◌then◌else◌};
+ghost use Rattle.std.specs.Prelude.{◌≡◌, ℕ, ◌+◌, ◌*◌, ◌≤◌, ◌<◌, ◌++◌, ◌∷◌, [], take, drop, length, IfOk, OnOk, replicate, if◌then◌else◌};
 ghost use Rattle.std.specs.Int.{w32, to_le_bytes};
-ghost use Rattle.dsa_descriptor.specs.Descriptors.{fields};
 ghost use Rattle.dsa_descriptor.specs.Pieces.{most_pieces};
-ghost use Rattle.dsa_descriptor.specs.Spelling.{spelling};
+ghost use Rattle.dsa_operations.specs.Operations.{spelling_of};
 ghost use Rattle.dsa_emission.specs.declared.place.Place.{Place};
 ghost use Rattle.dsa_plan.specs.Plan.{piece_count};
 ghost use Rattle.dsa_plan.specs.Emission.{batch_count, batched, batched_count, is_batch};
@@ -17,14 +16,15 @@ ghost use Rattle.dsa_prepared.specs.Templates.{group_entries, portal_entries, st
 use crate::entry::Entry;
 use crate::template::entry_of;
 use crate::word::Word;
-use dsa_descriptor::{Descriptor, Span};
+use dsa_descriptor::Span;
+use dsa_operations::Operation;
 use dsa_plan::Group;
 use std::alloc::{AllocError, Global};
 
 /// The entry of a batch of this owner, whose record and descriptors are at these offsets of the staging area.
-fn batch_entry(first: &Descriptor, record_at: u64, list_at: u64, count: u32) -> Entry
+fn batch_entry(first: &Operation, record_at: u64, list_at: u64, count: u32) -> Entry
     ensures { result ≡ record {
-      head = take 4 (spelling (fields first.now)) ++ to_le_bytes w32 0x0100000c;
+      head = take 4 (spelling_of first.now) ++ to_le_bytes w32 0x0100000c;
       completion = InStaging record_at;
       first = InStaging list_at;
       second = Fixed 0;
@@ -87,7 +87,7 @@ fn batched_total(groups: &[Group]) -> usize
 fn group_entry(
     regions: &[Span],
     group: &Group,
-    pieces: &[Descriptor],
+    pieces: &[Operation],
     start: usize,
     record_at: u64,
     list_at: u64,
@@ -98,7 +98,7 @@ fn group_entry(
     requires few { length pieces.now ≤ most_pieces }
     ensures { (total : ℕ) (place : Place) → place.start ≡ start →
         64 * total + 32 * place.batches ≡ record_at → 64 * place.batched ≡ list_at →
-        group_entries regions.now total place group.now (map fields pieces.now) ≡ result ∷ [] }
+        group_entries regions.now total place group.now pieces.now ≡ result ∷ [] }
 {
     if group.len() > 1 {
         batch_entry(&pieces[0], record_at, list_at, group.len() as u32)
@@ -112,14 +112,14 @@ pub(crate) fn portal_entries(
     alloc: Global,
     regions: &[Span],
     groups: &[Group],
-    pieces: &[Descriptor],
+    pieces: &[Operation],
 ) -> Result<Vec<Entry>, AllocError>
     requires rising { AreRegions regions.now }
     requires covers { piece_count groups.now ≡ length pieces.now }
     requires few { length pieces.now ≤ most_pieces }
     requires nonempty { AreNonempty groups.now }
     ensures { IfOk result (λ entries.
-        entries.items ≡ portal_entries regions.now groups.now (map fields pieces.now)) }
+        entries.items ≡ portal_entries regions.now groups.now pieces.now) }
 {
     let total = batched_total(groups);
     let mut entries = Vec::with_capacity(alloc, groups.len())?;
@@ -140,12 +140,12 @@ fn stage_batch(
     entries: &mut Vec<Entry>,
     regions: &[Span],
     group: &Group,
-    pieces: &[Descriptor],
+    pieces: &[Operation],
 ) -> Result<(), AllocError>
     requires rising { AreRegions regions.now }
     requires within { length group.now ≤ length pieces.now }
     ensures { OnOk result (entries.new.items ≡
-        entries.old.items ++ fenced_entries regions.now group.now (map fields pieces.now)) }
+        entries.old.items ++ fenced_entries regions.now group.now pieces.now) }
 {
     let fences = group.fences();
     for k in 0..fences.len() {
@@ -159,14 +159,14 @@ fn stage_group(
     entries: &mut Vec<Entry>,
     regions: &[Span],
     group: &Group,
-    pieces: &[Descriptor],
+    pieces: &[Operation],
     start: usize,
 ) -> Result<(), AllocError>
     requires rising { AreRegions regions.now }
     requires within { start + length group.now ≤ length pieces.now }
     ensures { OnOk result (entries.new.items ≡ entries.old.items ++
         (if is_batch group.now
-        then fenced_entries regions.now group.now (drop start (map fields pieces.now))
+        then fenced_entries regions.now group.now (drop start pieces.now)
         else [])) }
 {
     if group.len() > 1 {
@@ -180,13 +180,13 @@ pub(crate) fn staging_entries(
     alloc: Global,
     regions: &[Span],
     groups: &[Group],
-    pieces: &[Descriptor],
+    pieces: &[Operation],
 ) -> Result<Vec<Entry>, AllocError>
     requires rising { AreRegions regions.now }
     requires covers { piece_count groups.now ≡ length pieces.now }
     requires few { length pieces.now ≤ most_pieces }
     ensures { IfOk result (λ entries.
-        entries.items ≡ staging_entries regions.now groups.now (map fields pieces.now)) }
+        entries.items ≡ staging_entries regions.now groups.now pieces.now) }
 {
     let mut entries = Vec::with_capacity(alloc, batched_total(groups))?;
     let mut start = 0;

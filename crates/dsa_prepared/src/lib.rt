@@ -11,6 +11,7 @@ mod parts;
 mod places;
 mod prepared;
 mod preparing;
+mod preparing_any;
 mod reading;
 mod row;
 mod sorted;
@@ -27,9 +28,11 @@ pub use keeping::{
     samples_relocate, submission_relocates,
 };
 pub use laws::{
-    aligned_bases_align, filled_is_emission, filled_is_planned, prepared_without_fences,
+    aligned_bases_align, filled_any_is_planned, filled_is_emission, filled_is_planned,
+    prepared_without_fences,
 };
 pub use prepared::Prepared;
 pub use preparing::{Costed, prepare};
+pub use preparing_any::prepare_any_list;
 pub use reading::are_prepared;
 pub use row::Row;

@@ -1,17 +1,19 @@
 //! Regions, and where addresses lie in them.
 
-ghost use Rattle.std.specs.Prelude.{◌≡◌, ℕ, ◌<◌, ◌≤◌, ◌↔◌, All, length, map, IsTrue, MatchOption};
+ghost use Rattle.std.specs.Prelude.{◌≡◌, ℕ, ◌<◌, ◌≤◌, ◌↔◌, All, length, IsTrue, MatchOption};
 ghost use Rattle.std.specs.List.{AllByRecursion};
 ghost use Rattle.dsa_descriptor.specs.Descriptors.{fields};
 ghost use Rattle.dsa_splitter.specs.Operations.{IsSplittable};
 ghost use Rattle.dsa_splitter.specs.Pieces.{row_span};
-ghost use Rattle.dsa_prepared.specs.Regions.{LiesIn, LiesInOne, LiesWhole};
+ghost use Rattle.dsa_operations.specs.declared.operation.Operation.TheVariants as operation;
+ghost use Rattle.dsa_prepared.specs.Regions.{IsOneOrSplittable, LiesIn, LiesInOne, LiesWhole, OperationLies, PieceLies};
 ghost use Rattle.dsa_prepared.specs.Entries.{place_in, word_at};
 ghost use Rattle.dsa_prepared.specs.Preparing.{AreRegions, IsFirstOutside, IsRegionFault, end_of, region_at};
 
 use crate::fault::PrepareFault;
 use crate::word::Word;
-use dsa_descriptor::{Descriptor, RECORD_LEN, Span};
+use dsa_descriptor::{Descriptor, RECORD_LEN, Span, record_span};
+use dsa_operations::{Checksum, Operation};
 
 /// How many regions end at the address or before it. Of all regions, only the next can have the address.
 fn ended_at(regions: &[Span], address: u64) -> usize
@@ -98,7 +100,7 @@ fn row_of(d: &Descriptor, greatest: u64) -> Span
     }
 }
 
-/// Whether each range of the operation, and the row of its records, lies in one of the regions.
+/// Whether each range of the descriptor, and the row of its records, lies in one of the regions.
 fn lies_whole(d: &Descriptor, regions: &[Span], greatest: u64) -> bool
     requires rising { AreRegions regions.now }
     requires least { 8 ≤ greatest }
@@ -112,6 +114,33 @@ fn lies_whole(d: &Descriptor, regions: &[Span], greatest: u64) -> bool
         return false;
     }
     lies_in_one(regions, row_of(d, greatest))
+}
+
+/// Whether each range of the checksum, and its record, lies in one of the regions.
+fn checksum_lies(c: &Checksum, regions: &[Span]) -> bool
+    requires { AreRegions regions.now }
+    ensures { IsTrue result ↔ PieceLies regions.now (operation.Checksum c.now) }
+{
+    if !lie_in_one(regions, &c.op.sources(c.size)) {
+        return false;
+    }
+    if !lies_in_one(regions, record_span(c.record_at)) {
+        return false;
+    }
+    lie_in_one(regions, &c.op.targets(c.size))
+}
+
+/// Whether each range of the operation, and the row of its records, lies in one of the regions.
+fn operation_lies(operation: &Operation, regions: &[Span], greatest: u64) -> bool
+    requires rising { AreRegions regions.now }
+    requires least { 8 ≤ greatest }
+    requires splittable { IsOneOrSplittable greatest operation.now }
+    ensures { IsTrue result ↔ OperationLies regions.now greatest operation.now }
+{
+    match operation {
+        Operation::Descriptor(descriptor) => lies_whole(descriptor, regions, greatest),
+        Operation::Checksum(checksum) => checksum_lies(checksum, regions),
+    }
 }
 
 /// The first cause why the regions are refused.
@@ -133,19 +162,19 @@ pub(crate) fn region_fault(regions: &[Span]) -> Option<PrepareFault>
 
 /// The first operation that does not lie whole in regions.
 pub(crate) fn first_outside(
-    operations: &[Descriptor],
+    operations: &[Operation],
     regions: &[Span],
     greatest: u64,
 ) -> Option<usize>
     requires rising { AreRegions regions.now }
     requires least { 8 ≤ greatest }
-    requires splittable { All (λ d. IsSplittable d.op d.size greatest) operations.now }
+    requires splittable { All (IsOneOrSplittable greatest) operations.now }
     ensures { MatchOption result
-        (AllByRecursion (LiesWhole regions.now greatest) (map fields operations.now))
-        (IsFirstOutside regions.now greatest (map fields operations.now)) }
+        (AllByRecursion (OperationLies regions.now greatest) operations.now)
+        (IsFirstOutside regions.now greatest operations.now) }
 {
     for i in 0..operations.len() {
-        if !lies_whole(&operations[i], regions, greatest) {
+        if !operation_lies(&operations[i], regions, greatest) {
             return Some(i);
         }
     }

@@ -1,16 +1,15 @@
 //! Preparing a list: planning it, and keeping its submission with each address as a region and an offset.
 
-ghost use Rattle.std.specs.Prelude.{◌≡◌, ◌⊎◌, List, IfErr, IfOk, Err, length, ℕ};
+ghost use Rattle.std.specs.Prelude.{◌≡◌, ◌⊎◌, List, IfErr, IfOk, Err, ℕ, map};
 ghost use Rattle.dsa_descriptor.specs.declared.descriptor.Descriptor.{Descriptor};
-ghost use Rattle.dsa_plan.specs.Plan.{piece_count};
 ghost use Rattle.dsa_descriptor.specs.Fences.{barriers_of, unfenced_list};
 ghost use Rattle.dsa_calls.specs.Lists.{IsListOf};
-ghost use Rattle.dsa_calls.specs.Planned.{submission_of};
 ghost use Rattle.dsa_calls.specs.declared.fault.PlanFault.TheVariants.{Memory};
 ghost use Rattle.dsa_prepared.specs.declared.fault.PrepareFault.{PrepareFault};
 ghost use Rattle.dsa_prepared.specs.declared.fault.PrepareFault.TheVariants.{Plan};
-ghost use Rattle.dsa_prepared.specs.Preparing.{IsCostedOf, IsFirstPrepareFault, IsKept, IsPlaceFault, IsSplitInto};
-ghost use Rattle.dsa_prepared.specs.Sound.{AreNonempty};
+ghost use Rattle.dsa_operations.specs.declared.operation.Operation.TheVariants as operation;
+ghost use Rattle.dsa_prepared.specs.Preparing.{IsCostedOf, IsFirstPrepareFault, IsKept, IsPlaceFault};
+ghost use Rattle.dsa_prepared.specs.Sound.{CanBeKept};
 
 use crate::fault::PrepareFault;
 use crate::places::{first_outside, region_fault};
@@ -18,7 +17,9 @@ use crate::prepared::Prepared;
 use crate::template::template_of;
 use dsa_calls::{PlanFault, Planned, plan_operations};
 use dsa_descriptor::{Descriptor, DescriptorList, Span, read_descriptor_list};
-use dsa_plan::Settings;
+use dsa_lists::operations_of;
+use dsa_operations::Operation;
+use dsa_plan::{Plan as GroupPlan, Settings};
 use std::alloc::Global;
 
 /// A prepared list, and what its plan costs.
@@ -30,19 +31,18 @@ pub struct Costed {
     pub cost: u64,
 }
 
-/// Keeps the submission of planned operations, with its cost.
-fn keep(
+/// Keeps the submission of operations and their pieces by this plan.
+pub(crate) fn keep(
     alloc: Global,
-    operations: &[Descriptor],
-    planned: &Planned,
+    operations: &[Operation],
+    pieces: &[Operation],
+    plan: &GroupPlan,
     settings: &Settings,
     regions: &[Span],
-) -> Result<Costed, PrepareFault>
-    requires pieces { IsSplitInto settings.now operations.now planned.now.pieces.items }
-    requires covers { piece_count planned.now.plan ≡ length planned.now.pieces.items }
-    requires nonempty { AreNonempty planned.now.plan }
-    ensures kept { IfOk result (λ x. (x.cost ≡ planned.now.cost) × IsKept settings.now
-        regions.now operations.now (submission_of planned.now) x.prepared) }
+) -> Result<Prepared, PrepareFault>
+    requires { CanBeKept settings.now operations.now pieces.now plan.now }
+    ensures kept { IfOk result
+        (IsKept settings.now regions.now operations.now pieces.now plan.now) }
     ensures fault { IfErr result (λ fault. (fault ≡ Plan Memory) ⊎
         IsPlaceFault settings.now regions.now operations.now fault) }
 {
@@ -52,13 +52,42 @@ fn keep(
     if let Some(i) = first_outside(operations, regions, settings.greatest_transfer()) {
         return Err(PrepareFault::Outside(i));
     }
-    match template_of(alloc, regions, operations, &planned.plan, &planned.pieces) {
-        Ok(prepared) => Ok(Costed {
-            prepared,
-            cost: planned.cost,
-        }),
+    match template_of(alloc, regions, operations, plan, pieces) {
+        Ok(prepared) => Ok(prepared),
         Err(_) => Err(PrepareFault::Plan(PlanFault::Memory)),
     }
+}
+
+/// Keeps the submission of planned descriptors.
+fn keep_descriptors(
+    alloc: Global,
+    descriptors: &[Descriptor],
+    planned: &Planned,
+    settings: &Settings,
+    regions: &[Span],
+) -> Result<Prepared, PrepareFault>
+    requires { CanBeKept settings.now (map operation.Descriptor descriptors.now)
+        (map operation.Descriptor planned.now.pieces.items) planned.now.plan }
+    ensures kept { IfOk result (IsKept settings.now regions.now
+        (map operation.Descriptor descriptors.now)
+        (map operation.Descriptor planned.now.pieces.items) planned.now.plan) }
+    ensures fault { IfErr result (λ fault. (fault ≡ Plan Memory) ⊎ IsPlaceFault settings.now
+        regions.now (map operation.Descriptor descriptors.now) fault) }
+{
+    let Ok(operations) = operations_of(alloc, descriptors) else {
+        return Err(PrepareFault::Plan(PlanFault::Memory));
+    };
+    let Ok(pieces) = operations_of(alloc, &planned.pieces) else {
+        return Err(PrepareFault::Plan(PlanFault::Memory));
+    };
+    keep(
+        alloc,
+        &operations,
+        &pieces,
+        &planned.plan,
+        settings,
+        regions,
+    )
 }
 
 /// Plans operations that keep their barriers, and keeps their submission.
@@ -78,9 +107,16 @@ fn prepare_operations(
         IfErr result (λ fault. (fault ≡ Plan Memory) ⊎
         IsFirstPrepareFault list settings.now regions.now fault) }
 {
-    match plan_operations(alloc, operations, settings) {
-        Ok(planned) => keep(alloc, &operations.descriptors, &planned, settings, regions),
-        Err(fault) => Err(PrepareFault::Plan(fault)),
+    let planned = match plan_operations(alloc, operations, settings) {
+        Ok(planned) => planned,
+        Err(fault) => return Err(PrepareFault::Plan(fault)),
+    };
+    match keep_descriptors(alloc, &operations.descriptors, &planned, settings, regions) {
+        Ok(prepared) => Ok(Costed {
+            prepared,
+            cost: planned.cost,
+        }),
+        Err(fault) => Err(fault),
     }
 }
 

@@ -1,7 +1,7 @@
 //! Rows of ten words: a prepared submission is an array of them.
 
 ghost use Rattle.std.specs.Prelude.{◌≡◌, ◌+◌, ◌≤◌, ◌↔◌, ◌++◌, drop, length, take, IsTrue};
-ghost use Rattle.dsa_prepared.specs.Entries.{filled_entry, word_value};
+ghost use Rattle.dsa_prepared.specs.Entries.{filled_entry, own_bytes, reads_seed, word_value};
 ghost use Rattle.dsa_prepared.specs.Sound.{HasValue, HasValues};
 ghost use Rattle.std.specs.Int.{w64, from_le_bytes, to_le_bytes};
 ghost use Rattle.dsa_prepared.specs.Rows.{AreNumbered, AreOrigins, HasKinds, IsNumbered, IsOrigin, entry_in, entry_row, kind_of, region_in, region_row, tie_in, tie_row, unit_in, value_of, word_in};
@@ -49,16 +49,46 @@ pub(crate) struct Origins {
     pub(crate) second: Origin,
 }
 
-/// The number that the operation's own word gives: most often its value, which is tested first.
+/// Bytes 40 to 47, and 48 to 55.
+#[derive(Clone, Copy)]
+struct Own {
+    first: u64,
+    second: u64,
+}
+
+/// Whether the first eight bytes are those of a checksum that reads its seed.
 #[inline(always)]
-fn own_value_in(kind: u64, value: u64, bases: &[u64], staging: u64) -> u64
+fn reads_seed(head: u64) -> bool
+    ensures { result ≡ reads_seed (to_le_bytes w64 head) }
+{
+    head / (1 << 57) == 8 && head / (1 << 48) % 2 == 1
+}
+
+/// What the operation's own word gives: most often its value, which is tested first.
+#[inline(always)]
+fn own_in(head: u64, kind: u64, value: u64, bases: &[u64], staging: u64) -> Own
     requires { HasValue bases.now staging (word_in kind value) }
-    ensures { result ≡ word_value bases.now staging (word_in kind value) }
+    ensures { to_le_bytes w64 result.first ++ to_le_bytes w64 result.second ≡
+        own_bytes (to_le_bytes w64 head) (word_in kind value)
+        (word_value bases.now staging (word_in kind value)) }
 {
     if kind == 0 {
-        return value;
+        return Own {
+            first: value,
+            second: 0,
+        };
     }
-    origin_of(kind, value, bases, staging).origin + value
+    let address = origin_of(kind, value, bases, staging).origin + value;
+    if reads_seed(head) {
+        return Own {
+            first: 0,
+            second: address,
+        };
+    }
+    Own {
+        first: address,
+        second: 0,
+    }
 }
 
 /// Writes the number over the eight bytes from the place on. A loop, which is compiled to one store.
@@ -179,12 +209,9 @@ impl Row {
         put(buffer, place + 16, origins.first.origin + words[5]);
         put(buffer, place + 24, origins.second.origin + words[7]);
         put(buffer, place + 32, words[1]);
-        put(
-            buffer,
-            place + 40,
-            own_value_in(words[8], words[9], bases, staging),
-        );
-        put(buffer, place + 48, 0);
+        let own = own_in(words[0], words[8], words[9], bases, staging);
+        put(buffer, place + 40, own.first);
+        put(buffer, place + 48, own.second);
         put(buffer, place + 56, 0);
     }
 }

@@ -5,7 +5,7 @@ use Rattle.dsa_prepared.specs.declared.entry.Entry.{Entry}
 use Rattle.dsa_prepared.specs.Entries.{filled_entry}
 use Rattle.dsa_prepared.specs.Rows.{entry_in}
 use Rattle.dsa_prepared.specs.Sound.{HasValues}
-use Rattle.dsa_prepared.proofs.Put.{put_more}
+use Rattle.dsa_prepared.proofs.Put.{filled_long, put_more}
 use Rattle.dsa_prepared.proofs.RowChecks.{no_row, one_read}
 use Rattle.dsa_prepared.proofs.filling.put_alike.Goals as goal
 
@@ -19,7 +19,7 @@ loop-k-preserved c =
     record {
       put = λ before was. put_more c.args.bases.now c.args.staging (map entry_in rows) c.loop-k.k before c.loop-k.buffer c.fill.new.buffer (filled_entry c.args.bases.now c.args.staging e) e
           (c.loop-k.invariant.put before was) (omega (arith, c.loop-k-test.true, length-map rows entry_in)) (sym (get_or-map entry_in rows c.loop-k.k no_row e c.loop-k-test.true))
-          refl refl (c.fill.ensures ∙ sym (append_assoc (take (64 * c.loop-k.k) c.loop-k.buffer) (filled_entry c.args.bases.now c.args.staging e) (drop (64 * c.loop-k.k + 64) c.loop-k.buffer)));
+          refl (filled_long c.args.bases.now c.args.staging (get_or rows c.loop-k.k no_row)) (c.fill.ensures ∙ sym (append_assoc (take (64 * c.loop-k.k) c.loop-k.buffer) (filled_entry c.args.bases.now c.args.staging e) (drop (64 * c.loop-k.k + 64) c.loop-k.buffer)));
       from = omega (arith, c.loop-k.invariant.from);
       long = c.fill.auto.buffer ∙ c.loop-k.invariant.long;
     }

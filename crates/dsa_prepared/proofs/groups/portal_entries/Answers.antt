@@ -1,7 +1,5 @@
 use Rattle.std.proofs.Common.{◌≡◌, ◌+◌, ◌*◌, length, ap, sym, ◌∙◌, Some, arith}
-use Rattle.std.specs.Prelude.{map}
 use Rattle.std.proofs.lemmas.Option.{slice_get-get_or}
-use Rattle.dsa_descriptor.specs.Descriptors.{fields}
 use Rattle.dsa_emission.specs.declared.place.Place.{Place}
 use Rattle.dsa_plan.specs.Plan.{piece_count}
 use Rattle.dsa_plan.specs.Emission.{batched_count, place_of}
@@ -48,6 +46,6 @@ loop-group-preserved c =
       starts = omega (arith, before.starts, c.len-start.ensures, ap (λ (p : Place). p.start) next);
       batches_are = omega (arith, before.batches_are, c.batches_of-batches.ensures, ap (λ (p : Place). p.batches) next);
       batched_are = omega (arith, before.batched_are, c.batched_of-batched.ensures, ap (λ (p : Place). p.batched) next);
-      so_far = portal_next c.args.regions.now c.args.groups.now (map fields c.args.pieces.now) c.loop-group.group-index c.group-item.result
+      so_far = portal_next c.args.regions.now c.args.groups.now c.args.pieces.now c.loop-group.group-index c.group-item.result
           c.loop-group.entries.items c.push.new.self.items c.group_entry.result c.loop-group-test.true c.group-item.is before.so_far c.in_ok-push.ensures.items made;
     }

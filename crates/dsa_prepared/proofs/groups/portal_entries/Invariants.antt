@@ -1,6 +1,5 @@
 use Rattle.std.proofs.Common.{◌≡◌, [], take}
-use Rattle.std.specs.Prelude.{map, slice_index_or}
-use Rattle.dsa_descriptor.specs.Descriptors.{fields}
+use Rattle.std.specs.Prelude.{slice_index_or}
 use Rattle.dsa_plan.specs.Plan.{start_of}
 use Rattle.dsa_plan.specs.Emission.{batch_count, batched_count, place_of}
 use Rattle.dsa_prepared.specs.Templates.{gathered, group_entries}
@@ -12,5 +11,5 @@ invariant-loop-group l = record {
   starts : l.start ≡ start_of l.groups l.group-index;
   batches_are : l.batches ≡ batch_count (take l.group-index l.groups);
   batched_are : l.batched ≡ batched_count (take l.group-index l.groups);
-  so_far : l.entries.items ≡ gathered (λ number. group_entries l.regions (batched_count l.groups) (place_of l.groups number) (slice_index_or l.groups number []) (map fields l.pieces)) l.group-index;
+  so_far : l.entries.items ≡ gathered (λ number. group_entries l.regions (batched_count l.groups) (place_of l.groups number) (slice_index_or l.groups number []) l.pieces) l.group-index;
 }

@@ -16,8 +16,8 @@ returns c =
     let part2 : List ℕ = to_le_bytes w64 (c.args.origins.now.first.origin + get_or words 5 0) in
     let part3 : List ℕ = to_le_bytes w64 (c.args.origins.now.second.origin + get_or words 7 0) in
     let part4 : List ℕ = to_le_bytes w64 (get_or words 1 0) in
-    let part5 : List ℕ = to_le_bytes w64 c.own_value_in.result in
-    let part6 : List ℕ = to_le_bytes w64 0 in
+    let part5 : List ℕ = to_le_bytes w64 c.own_in-own.result.first in
+    let part6 : List ℕ = to_le_bytes w64 c.own_in-own.result.second in
     let part7 : List ℕ = to_le_bytes w64 0 in
     let completion = sym (word_counts c.args.bases.now c.args.staging (get_or words 2 0) c.args.origins.now.completion.kind c.args.origins.now.completion.origin (get_or words 3 0) c.requires.origins.completion c.requires.kinds.completion c.requires.values.completion) in
     let first = sym (word_counts c.args.bases.now c.args.staging (get_or words 4 0) c.args.origins.now.first.kind c.args.origins.now.first.origin (get_or words 5 0) c.requires.origins.first c.requires.kinds.first c.requires.values.first) in
@@ -39,4 +39,4 @@ returns c =
     let seven : c.put-7.new.buffer ≡ take place old ++ ((done6 ++ part6) ++ drop (place + 56) old) = word_more old c.put-6.new.buffer c.put-7.new.buffer done6 part6 place 48 (place + 48) six refl refl (omega (arith, c.requires.room)) c.put-7.ensures in
     let eight : c.put-8.new.buffer ≡ take place old ++ ((done7 ++ part7) ++ drop (place + 64) old) = word_more old c.put-7.new.buffer c.put-8.new.buffer done7 part7 place 56 (place + 56) seven refl refl (omega (arith, c.requires.room)) c.put-8.ensures in
     eight ∙ (λ i. take place old ++ ((part0 ++ (to_le_bytes w64 (completion i) ++ (to_le_bytes w64 (first i) ++ (to_le_bytes w64 (second i)
-    ++ (part4 ++ (to_le_bytes w64 (c.own_value_in.ensures i) ++ (part6 ++ part7))))))) ++ drop (place + 64) old))
+    ++ (part4 ++ (c.own_in-own.ensures i ++ part7)))))) ++ drop (place + 64) old))

@@ -483,13 +483,17 @@ def bad_rust(manifest):
         refused("the crate over nothing", ["the package dsa-planner is not found", *what_to_do], *command, **places)
 
 
-# Two moves, the second of what the first wrote, prepared once and filled where all buffers lie elsewhere.
+# Two moves, the second of what the first wrote, prepared once and filled where all buffers lie elsewhere; and the same
+# with a checksum of what was written, whose seed is read there.
 FILLED = """
-from dsa_planner import Prepared, Refusal, Settings, plan_list, prepare
+from dsa_planner import Prepared, Refusal, Settings, crc, plan_list, prepare
 
 def moves(*at):
     words = [(0x0300000C << 32, at[3], at[0], at[1], 64), (0x0300000C << 32, at[3] + 32, at[1], at[2], 64)]
     return b"".join(b"".join(word.to_bytes(8, "little") for word in it) + bytes(24) for it in words)
+
+def with_checksum(*at):
+    return moves(*at)[:64] + crc(at[1], 64, at[3] + 32, seed_at=at[2] + 4)
 
 def settings(staging):
     return Settings(4, 4096, lone=10, batch=14, fence=3, staging=staging)
@@ -498,6 +502,9 @@ old, new = (0x1000, 0x2000, 0x3000, 0x8000), (0x91040, 0x700, 0x5000, 0x60)
 prepared = prepare(settings(0x10000), moves(*old), [(first, 64) for first in old])
 planned = plan_list(settings(0x40000), moves(*new))
 same = [Prepared(bytes(it)).fill(new, 0x40000) == (planned.portal, planned.staging) for it in (prepared, bytes(prepared))]
+seeded = prepare(settings(0x10000), with_checksum(*old), [(first, 64) for first in old])
+planned_so = plan_list(settings(0x40000), with_checksum(*new))
+same.append(seeded.fill(new, 0x40000) == (planned_so.portal, planned_so.staging))
 assert len(planned.portal) == 64
 try:
     prepared.fill(new, 0x5000)
@@ -528,7 +535,7 @@ def python():
     tried("the queue in Python", "python3", "-B", EXAMPLES / "queue/queue_copy.py", printed=printed, PYTHONPATH=module)
     Path(FOLDER, "readme.py").write_text(block_after("docs/USING.md", "### From Python", "python"))
     tried("the Python lines of docs/USING.md", "python3", "-B", "readme.py", printed="cost 10\n", PYTHONPATH=module)
-    printed = "2 batches as planned, then 109\n"
+    printed = "3 batches as planned, then 109\n"
     tried("a list prepared in Python", "python3", "-B", "-c", FILLED, printed=printed, PYTHONPATH=module)
     printed = "17 17 [0, 10, 17] [(0, 1), None] 0102\n"
     tried("a list with a barrier in Python", "python3", "-B", "-c", BARRIERS, printed=printed, PYTHONPATH=module)

@@ -463,6 +463,7 @@ WRONG = [
      "    list->was_started = false;\n", "polled"),
     ("a list is filled whose operands are not in step", "prepared.c", "(*base != unset && *base != now)", "0",
      "placed"),
+    ("a seed in memory is no operand", "list.c", "        count++;\n", "        ;\n", "placed"),
     ("a list that was placed elsewhere keeps its plan", "list.c", "    list->is_planned = false;\n", "    ;\n",
      "placed"),
     ("a place that fails is forgotten", "run.c", "        return list->misplaced;\n", "        ;\n", "misplaced"),

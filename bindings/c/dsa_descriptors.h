@@ -82,7 +82,7 @@ static inline void dsa_put_dualcast(uint8_t *at, uint64_t source, uint64_t first
 }
 
 /* The checksum (CRC-32C) of a range, the number in bytes 16 to 19 of the record, as one checksum of what `seed` is that
- * of and of the range; 0 for that of the range alone. dsa_prepare takes no list with checksums. */
+ * of and of the range; 0 for that of the range alone. */
 static inline void dsa_put_crc(uint8_t *at, uint64_t source, uint64_t size, uint32_t seed, uint64_t record)
 {
     dsa_put_descriptor(at, 0x10, source, 0, size, seed, record);

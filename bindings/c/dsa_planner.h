@@ -10,10 +10,10 @@
  *            that is split the first piece is after the barrier, and the flag on the first operation says nothing. A
  *            plan keeps each barrier, by a fence or a new group, and no legal plan that does costs less.
  *
- * Checksums: a list, and bytes to submit, may have CRC generation (0x10) and copy with CRC (0x11), but dsa_prepare
- *            refuses the two codes (2). Of a list with one no operation is split: one longer than greatest_transfer is
- *            refused (37); dsa_count_pieces counts as of other operations. A seed in memory is read by its operation:
- *            a checksum that reads it in the record of another comes after that one.
+ * Checksums: a list, and bytes to submit, may have CRC generation (0x10) and copy with CRC (0x11). Of a list with one
+ *            no operation is split: one longer than greatest_transfer is refused (37); dsa_count_pieces counts as of
+ *            other operations. A seed in memory is read by its operation: a checksum that reads it in the record of
+ *            another comes after that one.
  *
  * Proved:    of each call but dsa_planner_version, for all inputs of a caller that does what is asked below: which
  *            number it returns, and what it has written then, as its comment here says. The contracts are at the
@@ -601,14 +601,13 @@ struct dsa_prepared_info {
 
 /*
  * Plans a list once, for dsa_fill to write what submits it on any buffers. regions are the buffers at whose addresses
- * the list was made, in the order of their addresses and without overlap; each range of each operation, and the row of
- * its pieces' records, lies in one of them. settings->staging counts for planning alone: dsa_fill takes one of its
- * own. What dsa_fill writes keeps each barrier.
+ * the list was made, in the order of their addresses and without overlap; each range of each operation, of which a seed
+ * in memory is one, and the row of its pieces' records, lies in one of them. settings->staging counts for planning
+ * alone: dsa_fill takes one of its own. What dsa_fill writes keeps each barrier.
  *
  * Returns 0: rows begins with the info->rows rows of the prepared list, and its rest is unchanged; refusal is not
  * written. Returns another number: refusal has it, and nothing else was written. What dsa_plan_list refuses comes
- * first (a checksum is refused as an unknown code is, 2), then 100 to 102, then DSA_NO_ROOM_FOR_ROWS: refusal.first is
- * the number of rows that are needed.
+ * first, then 100 to 102, then DSA_NO_ROOM_FOR_ROWS: refusal.first is the number of rows that are needed.
  */
 uint32_t dsa_prepare(const struct dsa_settings *settings,
                      const uint64_t *table, size_t table_len,

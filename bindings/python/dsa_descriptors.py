@@ -92,8 +92,7 @@ def crc(source: int, size: int, record: int, *, seed: int = 0, seed_at: Optional
         pasid: int = 0, privileged: bool = False) -> bytes:
     """That of a checksum (CRC-32C) of a range, the number in bytes 16 to 19 of the record: as one checksum of what
     `seed` is that of and of the range. With `seed_at` the seed is read from the four bytes there when it is made; at
-    `record + 16` of an earlier checksum, the two make one checksum of both ranges. `prepare` takes no list with
-    checksums."""
+    `record + 16` of an earlier checksum, the two make one checksum of both ranges."""
     in_memory, own = _seeded(seed, seed_at)
     return _descriptor(0x10, size, record, source, 0, own, flags | in_memory, _owner(pasid, privileged))
 

@@ -588,8 +588,8 @@ class Prepared:
 
 def prepare(settings: Settings, operations: Bytes, regions: Sequence[Tuple[int, int]]) -> Prepared:
     """Plans a list once, for buffers at any addresses: the regions, each its first address and its length, are those
-    with which the list was made, in the order of their addresses. What is filled keeps its barriers. Raises `Refusal`,
-    also of a list with a checksum (2)."""
+    with which the list was made, in the order of their addresses; the seed of a checksum lies in one of them, too. What
+    is filled keeps its barriers. Raises `Refusal`."""
     raw, table, entries = settings._raw()
     listed, size = _given("operations", operations)
     pieces = min(int(_library.dsa_count_pieces(raw, table, entries, listed, size)), MOST_PIECES)

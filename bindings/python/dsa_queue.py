@@ -408,7 +408,7 @@ class List:
     def crc(self, source: Any, seed: int = 0) -> int:
         """The checksum (CRC-32C) of bytes, `Result.checksum`: as one checksum of what `seed` is that of and of them; 0
         for that of them alone. A list with a checksum is planned as it is, so none of its operations may be longer than
-        the queue's greatest transfer; it is not prepared."""
+        the queue's greatest transfer."""
         return self._add(dsa_planner.crc, {"source": source}, seed=seed)
 
     def copy_crc(self, source: Any, target: Any, seed: int = 0) -> int:

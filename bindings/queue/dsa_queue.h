@@ -18,7 +18,7 @@
  * Faults:    a page that is absent is made present (Linux 5.14 or later), and what is left of the list is done. After
  *            any other failure nothing more is submitted; of what is, all before the next barrier may be done.
  * Checksums: a list with one (dsa_list_crc, dsa_list_copy_crc) is planned as it is, so none of its operations may be
- *            longer than the queue's greatest transfer; it is not prepared.
+ *            longer than the queue's greatest transfer.
  * Memory:    dsa_queue_open takes all memory of the layer; only planning allocates later, and frees it again, and
  *            dsa_list_prepare, whose memory is kept with the list until the queue is closed.
  *            Completion records and staging areas are the queue's. Buffers have to stay until the list has ended, and
@@ -123,12 +123,12 @@ enum dsa_end dsa_list_run(struct dsa_list *list);
 
 /* Plans the list for dsa_list_place. Returns 0, or -1: dsa_list_why says why. */
 int dsa_list_prepare(struct dsa_list *list);
-/* Gives an operation other addresses, in the order in which the call that added it takes them; NULL leaves one as it
- * is, and what the operation does not have is passed over. Sizes stay. It waits for a list that is in flight. Returns
- * the operation, or -1. Nobody has to look: from then on dsa_list_run and dsa_list_start refuse the list. If there is
- * no such operation, nothing is placed, and they do so until all operations are placed again in order, from 0; if it
- * is a move within its own range now that the device can't do, until it is placed elsewhere; and in both cases until
- * the list is cleared. dsa_list_prepare ends the first one too. */
+/* Gives an operation other addresses, in the order in which the call that added it takes them, and after these that of
+ * a seed in memory; NULL leaves one as it is, and what the operation does not have is passed over. Sizes stay. It waits
+ * for a list that is in flight. Returns the operation, or -1. Nobody has to look: from then on dsa_list_run and
+ * dsa_list_start refuse the list. If there is no such operation, nothing is placed, and they do so until all operations
+ * are placed again in order, from 0; if it is a move within its own range now that the device can't do, until it is
+ * placed elsewhere; and in both cases until the list is cleared. dsa_list_prepare ends the first one too. */
 int dsa_list_place(struct dsa_list *list, int operation, const void *first, const void *second, const void *third);
 
 /* Several lists in flight, on a queue with DSA_QUEUE_IN_FLIGHT. They leave what they leave one after another in the

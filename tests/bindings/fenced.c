@@ -5,8 +5,8 @@
  * separate each conflict, as told here by what operations read and write, and that begin a group or set a fence at each
  * barrier; the least cost of these is the answer, and what is submitted keeps each barrier. A flag that is no barrier
  * changes no byte, and what is refused of the list without flags is refused. Of each plan dsa_judge says what it costs,
- * or which barrier it does not keep. Preparing refuses checksums by their code; of a list that has not begun, resuming
- * answers all.
+ * or which barrier it does not keep. What is filled of a prepared list is what planning it on the new buffers answers,
+ * and a seed outside of all regions is refused; of a list that has not begun, resuming answers all.
  * With the certificate of these costs dsa_check_list accepts the bytes of those plans alone that are legal, keep the
  * barriers and cost the least, and no bytes of other pieces; and with its own certificate what dsa_plan_list_certified
  * writes, which is what dsa_plan_list does. With the certificate of the same pieces without barriers dsa_check accepts
@@ -445,28 +445,6 @@ static void try_checks(struct list *l)
     try_certified(l, &b, &planned);
 }
 
-/* Whether a refusal is that of the operation code of the first checksum. */
-static int is_refused(const struct list *l, uint32_t code, const struct dsa_refusal *r)
-{
-    size_t first = 0;
-    while (!(l->bytes[64 * first + 7] & 0x10))
-        first++;
-    return code == DSA_OPCODE && r->number == DSA_OPCODE && r->first == first;
-}
-
-/* Preparing takes no checksums, and refuses the first one by its code. */
-static void try_refused(const struct list *l)
-{
-    const struct dsa_region region = {0, UINT64_C(1) << 40};
-    struct dsa_prepared_row rows[DSA_PREPARED_ROOM(2, MOST)];
-    struct dsa_prepared_info info;
-    struct dsa_refusal r = {0};
-    const uint32_t code = dsa_prepare(&l->settings, l->table, l->entries, l->bytes, 64 * l->count, &region, 1, rows,
-                                      sizeof rows / sizeof *rows, &info, &r);
-    if (!is_refused(l, code, &r))
-        fail(l, "preparing takes a checksum", code, DSA_OPCODE);
-}
-
 /* Before a list has begun all of it is left, unless two of its operations share a record. */
 static void try_resumed(const struct list *l)
 {
@@ -532,10 +510,37 @@ static void try_spoilt(const struct list *l)
         fail(&spoilt, "judging a checksum that no list may have", judged_as, want);
 }
 
+/* Where the data and the records of a list are. */
+static const struct dsa_region regions[2] = {{0x10000, 0xc000}, {0x800000, 32 * MOST}};
+
+/* Puts an address of a list to its new place. */
+static void move(uint8_t *at, const uint64_t *bases)
+{
+    uint64_t address;
+    memcpy(&address, at, 8);
+    const int region = address >= regions[1].first;
+    address += bases[region] - regions[region].first;
+    memcpy(at, &address, 8);
+}
+
+/* A seed that lies in no region is refused, with its operation. */
+static void try_outside(const struct list *l)
+{
+    struct dsa_prepared_row rows[DSA_PREPARED_ROOM(2, MOST)];
+    struct dsa_prepared_info info;
+    struct dsa_refusal r = {0};
+    struct list other = *l;
+    const size_t last = l->count - 1;
+    dsa_seed_from(other.bytes + 64 * last, regions[0].first - 4);
+    const uint32_t code = dsa_prepare(&l->settings, l->table, l->entries, other.bytes, 64 * l->count, regions, 2, rows,
+                                      sizeof rows / sizeof *rows, &info, &r);
+    if (code != DSA_OUTSIDE || r.first != last)
+        fail(l, "preparing takes a seed outside of all regions", code, DSA_OUTSIDE);
+}
+
 /* What is filled of the prepared list is what planning it at its new addresses answers. */
 static void try_prepared(const struct list *l)
 {
-    const struct dsa_region regions[2] = {{0x10000, 0xc000}, {0x800000, 32 * MOST}};
     const uint64_t bases[2] = {0x40000 + 0x1000 * drawn(64), 0xa00000 + 32 * drawn(64)}, area = UINT64_C(3) << 40;
     struct dsa_prepared_row rows[DSA_PREPARED_ROOM(2, MOST)];
     struct dsa_prepared_info info;
@@ -544,13 +549,15 @@ static void try_prepared(const struct list *l)
     struct list moved = *l;
     uint8_t portal[ROOM], staging[STAGED], want_portal[ROOM], want_staging[STAGED];
     moved.settings.staging = area;
-    for (size_t k = 0; k < l->count; k++)
-        for (size_t at = 8; at <= 24; at += 8) {
-            uint64_t address;
-            memcpy(&address, moved.bytes + 64 * k + at, 8);
-            address += at == 8 ? bases[1] - regions[1].first : bases[0] - regions[0].first;
-            memcpy(moved.bytes + 64 * k + at, &address, 8);
-        }
+    for (size_t k = 0; k < l->count; k++) {
+        uint8_t *d = moved.bytes + 64 * k;
+        move(d + 8, bases);
+        move(d + 16, bases);
+        if (d[7] != 0x10)
+            move(d + 24, bases);
+        if (d[6] & 1)
+            move(d + 48, bases);
+    }
     if (dsa_prepare(&l->settings, l->table, l->entries, l->bytes, 64 * l->count, regions, 2, rows,
                     sizeof rows / sizeof *rows, &info, &r)
         || dsa_fill(rows, info.rows, bases, 2, area, portal, sizeof portal, staging, sizeof staging, &r))
@@ -599,11 +606,11 @@ int main(int argc, char **argv)
         try_list(&l);
         try_checks(&l);
         if (l.has_checksums) {
-            try_refused(&l);
             try_resumed(&l);
             try_spoilt(&l);
-        } else
-            try_prepared(&l);
+            try_outside(&l);
+        }
+        try_prepared(&l);
         try_refusal(&l);
     }
     printf("%d lists with barriers\n", count);

@@ -1,6 +1,6 @@
-/* Prepares random lists and fills them for other buffers: prepared LISTS SEED THREADS. The bytes have to be those that
- * planning the list at its new addresses answers, and a refusal has to be the first cause that a model in this file
- * finds, with its places, and nothing written. The model knows the rows from docs/FORMATS.md alone. */
+/* Prepares random lists, some with checksums, and fills them for other buffers: prepared LISTS SEED THREADS. The bytes
+ * have to be those that planning the list at its new addresses answers, and a refusal has to be the first cause that a
+ * model in this file finds, with its places, and nothing written. The model knows the rows from docs/FORMATS.md alone. */
 #include <inttypes.h>
 #include <pthread.h>
 #include <stdio.h>
@@ -10,6 +10,7 @@
 #include "dsa_planner.h"
 
 enum { OPERATIONS = 6, PIECES = 64, REGIONS = 14, ROWS = 1 + REGIONS + 3 * PIECES, MOST_THREADS = 16 };
+enum { CRC = 0x10, SEED_IN_MEMORY = 1, OPERANDS = 3 };
 
 struct buffers {
     uint8_t portal[64 * PIECES], staging[80 * PIECES];
@@ -101,11 +102,29 @@ static uint64_t any_address(const struct dsa_region *r, size_t n, uint64_t len, 
     return one_in(3) ? at : (at + unit - 1) / unit * unit;
 }
 
-static void any_operation(uint8_t *d, const struct dsa_region *r, size_t n)
+/* A checksum, half of them with a copy, and with a seed that is given or read. */
+static void any_checksum(uint8_t *d, const struct dsa_region *r, size_t n)
+{
+    const uint64_t size = get(d + 32, 4);
+    d[7] = (uint8_t)(CRC + below(2));
+    d[6] = (uint8_t)(2 * below(4));
+    put(d + 16, any_address(r, n, size, 8), 8);
+    put(d + 24, d[7] == CRC ? 0 : any_address(r, n, size, 4), 8);
+    put(d + 40, next(), 4);
+    if (one_in(2)) {
+        d[6] |= SEED_IN_MEMORY;
+        put(d + 40, 0, 4);
+        put(d + 48, any_address(r, n, 4, 4), 8);
+    }
+}
+
+/* An operation, of at most so many bytes if `most` is not 0; then it may be a checksum. */
+static void any_operation(uint8_t *d, const struct dsa_region *r, size_t n, uint64_t most)
 {
     static const uint8_t codes[] = {3, 3, 3, 3, 4, 4, 5, 6, 8, 8, 9, 9};
     uint8_t code = codes[below(12)];
     uint64_t size = code == 8 ? 8 * (1 + below(one_in(4) ? 6 : 4)) : 1 + below(one_in(3) ? 120 : 40);
+    size = most && size > most ? most : size;
     uint64_t delta = 10 * below(4), record = any_address(r, n, 32 * ((size + 31) / 32), 32);
     memset(d, 0, 64);
     d[0] = 7;
@@ -113,6 +132,10 @@ static void any_operation(uint8_t *d, const struct dsa_region *r, size_t n)
     d[7] = code;
     put(d + 32, size, 4);
     put(d + 8, one_in(30) ? record : record / 32 * 32, 8);
+    if (most && one_in(2)) {
+        any_checksum(d, r, n);
+        return;
+    }
     uint64_t first = code == 4 ? next() : code == 8 ? any_address(r, n, delta, 1) : any_address(r, n, size, 8);
     uint64_t second = code == 6 ? next() : any_address(r, n, size, code == 8 ? 8 : 4);
     if (code == 3 && one_in(3))
@@ -149,16 +172,34 @@ static uint64_t moved(const struct dsa_region *r, const uint64_t *bases, size_t 
     return i < n ? bases[i] + (address - r[i].first) : address;
 }
 
+/* Where an operation has an address of data, and how many bytes are there. */
+struct operand {
+    size_t at;
+    uint64_t len;
+};
+
+static size_t operands_of(const uint8_t *d, struct operand *o)
+{
+    const uint64_t size = get(d + 32, 4);
+    size_t n = 0;
+    if (d[7] != 4)
+        o[n++] = (struct operand){16, d[7] == 8 ? get(d + 40, 4) : size};
+    if (d[7] != 6 && d[7] != CRC)
+        o[n++] = (struct operand){24, size};
+    if (d[7] == 9)
+        o[n++] = (struct operand){40, size};
+    if (d[7] >= CRC && d[6] & SEED_IN_MEMORY)
+        o[n++] = (struct operand){48, 4};
+    return n;
+}
+
 static void move_list(uint8_t *list, size_t count, const struct dsa_region *r, const uint64_t *bases, size_t n)
 {
     for (uint8_t *d = list; d < list + 64 * count; d += 64) {
+        struct operand o[OPERANDS];
         put(d + 8, moved(r, bases, n, get(d + 8, 8)), 8);
-        if (d[7] != 4)
-            put(d + 16, moved(r, bases, n, get(d + 16, 8)), 8);
-        if (d[7] != 6)
-            put(d + 24, moved(r, bases, n, get(d + 24, 8)), 8);
-        if (d[7] == 9)
-            put(d + 40, moved(r, bases, n, get(d + 40, 8)), 8);
+        for (size_t k = operands_of(d, o); k > 0; k--)
+            put(d + o[k - 1].at, moved(r, bases, n, get(d + o[k - 1].at, 8)), 8);
     }
 }
 
@@ -185,9 +226,11 @@ static struct dsa_refusal why_unprepared(const uint8_t *list, size_t count, cons
     for (size_t i = 0; i < count; i++) {
         const uint8_t *d = list + 64 * i;
         uint64_t size = get(d + 32, 4), records = 32 * ((size + greatest - 1) / greatest);
-        if ((d[7] != 4 && lies(r, n, get(d + 16, 8), d[7] == 8 ? get(d + 40, 4) : size) == n) ||
-            (d[7] != 6 && lies(r, n, get(d + 24, 8), size) == n) || (d[7] == 9 && lies(r, n, get(d + 40, 8), size) == n) ||
-            lies(r, n, get(d + 8, 8), records) == n)
+        struct operand o[OPERANDS];
+        int is_outside = lies(r, n, get(d + 8, 8), records) == n;
+        for (size_t k = operands_of(d, o); k > 0; k--)
+            is_outside |= lies(r, n, get(d + o[k - 1].at, 8), o[k - 1].len) == n;
+        if (is_outside)
             return (struct dsa_refusal){DSA_OUTSIDE, 0, i, 0};
     }
     return (struct dsa_refusal){0, 0, 0, 0};
@@ -274,6 +317,7 @@ static int is_unchanged(const struct buffers *b)
 /* ---- one list */
 
 static uint64_t tried, planned, filled, refused[112], split, batched, with_dualcast, with_empty_delta, ends_high, damages, sound;
+static uint64_t with_checksum, with_seed;
 
 /* Rows of which some words were changed are refused exactly where the model says so. */
 static void damage(uint64_t count, const uint64_t *bases, size_t n, uint64_t staging)
@@ -342,9 +386,10 @@ static void one_list(void)
     uint64_t bases[REGIONS];
     uint8_t list[64 * OPERATIONS];
     size_t n = any_regions(r, bases), count = 1 + below(OPERATIONS);
-    for (size_t i = 0; i < count; i++)
-        any_operation(list + 64 * i, r, n);
     uint64_t old = one_in(20) ? 0x10000 + 64 * below(20) : 0x40000, greatest = UINT64_C(16) << below(3);
+    const uint64_t most = one_in(3) ? greatest + one_in(20) : 0;
+    for (size_t i = 0; i < count; i++)
+        any_operation(list + 64 * i, r, n, most);
     const uint64_t areas[] = {old, bases[0] / 64 * 64, (bases[0] + r[0].len + 63) / 64 * 64, 0x200000 + one_in(40)};
     uint64_t which = below(8), staging = areas[which < 3 ? which : 3];
     const struct dsa_settings s = {1, 2 + below(5), greatest, 10, 11 + below(12), below(6), old};
@@ -379,15 +424,19 @@ static void one_list(void)
     damage(info.rows, bases, n, staging);
     split += p.pieces > count;
     batched += p.staging_len > 0;
-    int dualcast = 0, empty = 0, high = 0;
+    int dualcast = 0, empty = 0, high = 0, checksum = 0, seed = 0;
     for (size_t i = 0; i < count; i++) {
         dualcast |= list[64 * i + 7] == 9;
         empty |= list[64 * i + 7] == 8 && !list[64 * i + 40];
+        checksum |= list[64 * i + 7] >= CRC;
+        seed |= list[64 * i + 7] >= CRC && list[64 * i + 6] & SEED_IN_MEMORY;
     }
     for (size_t i = 0; i < n; i++)
         high |= r[i].len && bases[i] + r[i].len == 0;
     with_dualcast += dualcast;
     with_empty_delta += empty;
+    with_checksum += checksum;
+    with_seed += seed;
     ends_high += high;
 }
 
@@ -526,8 +575,10 @@ int main(int argc, char **argv)
     limits();
     threads(strtoull(argv[3], NULL, 10));
     printf("%" PRIu64 " lists, %" PRIu64 " planned, %" PRIu64 " filled as planned; of the prepared, split %" PRIu64
-           ", in batches %" PRIu64 ", with a dualcast %" PRIu64 ", an empty delta %" PRIu64 ", a base that just fits %" PRIu64 "\n",
-           tried, planned, filled, split, batched, with_dualcast, with_empty_delta, ends_high);
+           ", in batches %" PRIu64 ", with a dualcast %" PRIu64 ", an empty delta %" PRIu64 ", a checksum %" PRIu64
+           ", a seed in memory %" PRIu64 ", a base that just fits %" PRIu64 "\n",
+           tried, planned, filled, split, batched, with_dualcast, with_empty_delta, with_checksum, with_seed,
+           ends_high);
     printf("damaged %" PRIu64 ", of which still prepared %" PRIu64 "; refused", damages, sound);
     for (int number = 1; number < 112; number++)
         if (refused[number])

@@ -218,8 +218,7 @@ int main(void)
     struct dsa_refusal r;
     put_inputs(1);
     for (int which = 0; which < CALLS; which++)
-        if (which != 4) /* preparing takes no checksums */
-            refuse_each(which, 1);
+        refuse_each(which, 1);
     put_inputs(0);
     for (int which = 0; which < CALLS; which++)
         refuse_each(which, which >= 9);

@@ -50,12 +50,12 @@ pub struct Prepared {
 
 /// Plans a list once, for buffers at any addresses: 64 bytes for each operation, in their order, of which
 /// [`plan_list`](crate::plan_list) says what is promised; [`Prepared::fill`] keeps its barriers. The regions are the
-/// buffers at whose addresses the list was made, in the order of their addresses; each range of each operation, and
-/// the row of its pieces' completion records, lies in one of them.
+/// buffers at whose addresses the list was made, in the order of their addresses; each range of each operation, a seed
+/// in memory among them, and the row of its pieces' completion records, lies in one of them.
 ///
 /// # Errors
-/// What [`plan_list`](crate::plan_list) refuses, and checksums; then [`Cause::RegionWrap`](crate::Cause::RegionWrap),
-/// `RegionOrder` and `Outside`.
+/// What [`plan_list`](crate::plan_list) refuses; then [`Cause::RegionWrap`](crate::Cause::RegionWrap), `RegionOrder`
+/// and `Outside`.
 pub fn prepare(settings: &Settings, list: &[u8], regions: &[Region]) -> Result<Prepared, Refusal> {
     let (raw, table) = settings.raw();
     let pieces = usize::try_from(count_pieces(settings, list)).map_or(0, |n| n.min(MOST_PIECES));

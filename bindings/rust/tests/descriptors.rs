@@ -1,6 +1,6 @@
 //! Descriptors and groups, and what calls answer of two checksums, worked by hand.
 
-use dsa_planner::{check, explain_list, judge, plan_list, prepare, resume, warn_list, LeftOrder, Tracker};
+use dsa_planner::{check, explain_list, judge, plan_list, resume, warn_list, LeftOrder, Tracker};
 use dsa_planner::{groups_of, list_of, BatchPrice, Cause, Descriptor, Hazard, Settings, Slots, Span};
 use dsa_planner::{BEGINS, BLOCK_ON_FAULT, FENCED};
 
@@ -65,7 +65,6 @@ fn a_checksum_waits_for_its_seed() {
     let before = tracker.submit(&settings, &first.0, area(0x10000), Slots::default()).unwrap();
     let after = tracker.submit(&settings, &second.0, area(0x11000), Slots::default()).unwrap();
     assert_eq!((before.slot, after.slot, after.waits.contains(0)), (0, 1, true));
-    assert_eq!(prepare(&settings, &list, &[]).unwrap_err().cause, Cause::Opcode);
     let left = resume(&settings, &list, &[0; 64], &[], LeftOrder::AsListed);
     assert_eq!(left.unwrap().rest, list);
 }

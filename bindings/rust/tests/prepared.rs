@@ -1,7 +1,9 @@
 //! Prepared lists: what filling writes beside planning at the new addresses, refusals with their places, rows that were
 //! damaged, and one prepared list on several threads.
 
-use dsa_planner::{plan_list, prepare, BatchPrice, Cause, Prepared, Refusal, Region, Settings};
+use dsa_planner::{
+    list_of, plan_list, prepare, BatchPrice, Cause, Descriptor, Prepared, Refusal, Region, Settings,
+};
 
 const SETTINGS: Settings = Settings {
     greatest_batch: 4,
@@ -78,6 +80,30 @@ fn what_is_filled_is_planned() {
         let wanted = (planned.portal, planned.staging);
         assert_eq!(filled(&prepared, &bases, 0x40000), Ok(wanted));
     }
+}
+
+// A checksum of the first region, and a copy into it, whose seed is that checksum, in its record.
+fn checksums(bases: [u64; 3]) -> Vec<u8> {
+    let first = Descriptor::crc(bases[0], 64, 5, bases[2]);
+    let second = Descriptor::copy_crc(bases[1], bases[0] + 0x400, 64, 0, bases[2] + 32);
+    list_of(&[first, second.seeded_from(bases[2] + 16)])
+}
+
+#[test]
+fn a_seed_goes_with_its_region() {
+    let list = checksums([0x1000, 0x2000, 0x8000]);
+    let prepared = prepare(&SETTINGS, &list, &REGIONS).unwrap();
+    let bases = [0x5001, 0x9003, 0x20];
+    let settings = Settings {
+        staging: 0x40000,
+        ..SETTINGS
+    };
+    let planned = plan_list(&settings, &checksums(bases)).unwrap();
+    let wanted = (planned.portal, planned.staging);
+    assert_eq!(filled(&prepared, &bases, 0x40000), Ok(wanted));
+    let outside = Descriptor::crc(0x1000, 64, 0, 0x8000).seeded_from(0x17fd);
+    let refusal = prepare(&SETTINGS, &list_of(&[outside]), &REGIONS).unwrap_err();
+    assert_eq!(refusal, refused(Cause::Outside, 0, 0));
 }
 
 #[test]

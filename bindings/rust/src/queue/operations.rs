@@ -107,7 +107,7 @@ impl List {
 
     /// The checksum (CRC-32C) of a part, [`Outcome::checksum`]: as one checksum of what `seed` is that of and of the
     /// part; 0 for that of the part alone. A list with a checksum is planned as it is, so none of its operations may be
-    /// longer than the queue's greatest transfer; it is not prepared.
+    /// longer than the queue's greatest transfer.
     ///
     /// # Errors
     /// As of [`List::memory_move`].

@@ -23,9 +23,12 @@ use Rattle.dsa_core.specs.StopPoint.{AllSucceed}
 use Rattle.dsa_core.specs.BatchRecords.{batch_records}
 use Rattle.dsa_core.specs.Epochs.{epoch_of}
 use Rattle.dsa_core.specs.PieceRuns.{StopsAfter}
-use Rattle.dsa_core.specs.Accounts.{Account, IsOver, IsUnfinished, IsOutcome}
-use Rattle.dsa_core.specs.Outcomes.{room_with, IsFirstRefused, IsOutcomeOf}
+use Rattle.dsa_core.specs.Accounts.{Account, IsOver}
+use Rattle.dsa_core.specs.DescriptorWork.{descriptor_work}
+use Rattle.dsa_core.specs.DescriptorRooms.{IsFirstRefused, IsOutcome, IsOutcomeOf, IsUnfinished}
+use Rattle.dsa_core.specs.Outcomes.{room_with}
 use Rattle.dsa_core.proofs.Accounts.{over_or_not}
+use Rattle.dsa_core.proofs.DescriptorsFit.{descriptors_fit}
 use Rattle.dsa_core.proofs.PieceRunLaws.{every_run_is_in_order}
 use Rattle.dsa_core.proofs.OneReplay.{none_refused, one_refused}
 use Rattle.dsa_core.proofs.StopPoint.{stop_points_agree}
@@ -42,14 +45,14 @@ use Rattle.dsa_calls.proofs.Refusals.{one_over_planned, follows_plan}
 -- ---- a trace has one end
 
 module _ (m : Memory) (plan : Plan) (pieces : List Fields) (engines : ℕ) where
-  abbrev room : List Event → Account
+  abbrev room : List Event → Account Fields
   room history = room_with m plan pieces engines history
 
-  over_refuses_none : (trace : List Event) (k : ℕ) → IsOver (room trace) → IsFirstRefused room trace k → ⊥
-  over_refuses_none trace k (s, now, over) first = none_refused m plan pieces engines trace s k now first
+  over_refuses_none : (trace : List Event) (k : ℕ) → IsOver descriptor_work (room trace) → IsFirstRefused room trace k → ⊥
+  over_refuses_none trace k (s, now, over) first = none_refused descriptor_work descriptors_fit m plan pieces engines trace s k now first
 
   unfinished_refuses_none : (trace : List Event) (k : ℕ) → IsUnfinished (room trace) → IsFirstRefused room trace k → ⊥
-  unfinished_refuses_none trace k (s, now, not_yet) first = none_refused m plan pieces engines trace s k now first
+  unfinished_refuses_none trace k (s, now, not_yet) first = none_refused descriptor_work descriptors_fit m plan pieces engines trace s k now first
 
 -- what a run leaves is one, whatever its history
 left_is_one : (m : Memory) (plan : Plan) (pieces : List Fields) (engines : ℕ) (vs ws : List Event) (a b : Left) →
@@ -66,10 +69,10 @@ module _ (m : Memory) (engines : ℕ) (trace : List Event) (plan : Plan) (pieces
   over_or_no_step : (left : Left) (fault : PlanFault) → IsOutcome (room_with m plan pieces engines trace) left.image left.finished left.batch_records
       → ReplaysPieces m engines trace plan pieces (Err fault) → ⊥
   over_or_no_step left fault out (inl (k, is, first)) = over_refuses_none m plan pieces engines trace k out.over first
-  over_or_no_step left fault out (inr (is, cut)) = over_or_not (room_with m plan pieces engines trace) out.over cut
+  over_or_no_step left fault out (inr (is, cut)) = over_or_not descriptor_work descriptors_fit (room_with m plan pieces engines trace) out.over cut
 
   one_end_fault : (f g : PlanFault) → ReplaysPieces m engines trace plan pieces (Err f) → ReplaysPieces m engines trace plan pieces (Err g) → f ≡ g
-  one_end_fault f g (inl (k, is, first)) (inl (j, is', first')) = is ∙ ap (λ (n : ℕ). Core (NotAStep n)) (one_refused m plan pieces engines trace k j first first') ∙ sym is'
+  one_end_fault f g (inl (k, is, first)) (inl (j, is', first')) = is ∙ ap (λ (n : ℕ). Core (NotAStep n)) (one_refused descriptor_work descriptors_fit m plan pieces engines trace k j first first') ∙ sym is'
   one_end_fault f g (inl (k, is, first)) (inr (is', cut)) = absurd (unfinished_refuses_none m plan pieces engines trace k cut first)
   one_end_fault f g (inr (is, cut)) (inl (k, is', first)) = absurd (unfinished_refuses_none m plan pieces engines trace k cut first)
   one_end_fault f g (inr (is, cut)) (inr (is', cut')) = is ∙ sym is'

@@ -12,8 +12,8 @@ use Rattle.dsa_core.specs.declared.event.Event.{Event}
 use Rattle.dsa_core.specs.declared.outcome.Outcome.{Outcome}
 use Rattle.dsa_core.specs.declared.fault.CoreFault.TheVariants.{TooLong, NotAStep, Incomplete}
 use Rattle.dsa_core.specs.PieceRuns.{event_count, most_events}
-use Rattle.dsa_core.specs.Accounts.{IsOutcome, IsUnfinished}
-use Rattle.dsa_core.specs.Outcomes.{room_with, IsFirstRefused}
+use Rattle.dsa_core.specs.DescriptorRooms.{IsFirstRefused, IsOutcome, IsUnfinished}
+use Rattle.dsa_core.specs.Outcomes.{room_with}
 use Rattle.dsa_engines.specs.declared.fault.RoomFault.TheVariants.{GateShut, Stale, Mixed}
 use Rattle.dsa_calls.specs.declared.fault.PlanFault.{PlanFault}
 use Rattle.dsa_calls.specs.declared.fault.PlanFault.TheVariants.{OutOfImage, Core, Room, Engines}

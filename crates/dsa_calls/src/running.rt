@@ -3,7 +3,8 @@
 ghost use Rattle.std.specs.Prelude.{◌≡◌, IfOk, Ok, Result, map};
 ghost use Rattle.dsa_descriptor.specs.Descriptors.{fields};
 ghost use Rattle.dsa_core.specs.Given.{IsRunnable};
-ghost use Rattle.dsa_core.specs.Outcomes.{IsOutcomeOf, room_with};
+ghost use Rattle.dsa_core.specs.DescriptorRooms.{IsOutcomeOf};
+ghost use Rattle.dsa_core.specs.Outcomes.{room_with};
 ghost use Rattle.dsa_calls.specs.Planned.{Plans, Submission};
 ghost use Rattle.dsa_calls.specs.Lists.{OrMemory};
 ghost use Rattle.dsa_calls.specs.Runs.{CanBegin, LeavesWhole, OrShut, OverPlanned, Runs, RunsPieces, left_of};

@@ -3,7 +3,8 @@ use Rattle.std.specs.Prelude.{IfOk}
 use Rattle.dsa_descriptor.specs.declared.descriptor.Descriptor.{Descriptor}
 use Rattle.dsa_descriptor.specs.Descriptors.{fields}
 use Rattle.dsa_core.specs.Given.{IsRunnable}
-use Rattle.dsa_core.specs.Outcomes.{IsOutcomeOf, room_with}
+use Rattle.dsa_core.specs.DescriptorRooms.{IsOutcomeOf}
+use Rattle.dsa_core.specs.Outcomes.{room_with}
 use Rattle.dsa_calls.specs.Lists.{OrMemory}
 use Rattle.dsa_calls.specs.Runs.{OrShut, RunsPieces, left_of}
 use Rattle.dsa_calls.proofs.Refusals.{ready_taken, ready_can, of_submission}

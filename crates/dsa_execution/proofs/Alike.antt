@@ -29,8 +29,9 @@ use Rattle.dsa_settings.specs.Legal.{IsLegal}
 use Rattle.dsa_settings.specs.Plan.{Plan}
 use Rattle.dsa_execution.specs.Alike.{SameMemory, SamePremises, SameRuns, SameStatuses, as_operations, as_partial, as_progress, as_state}
 use Rattle.dsa_execution.specs.Headline.{IsExecution}
-use Rattle.dsa_execution.specs.Operations.{OperationPartial, operation_machine}
-use Rattle.dsa_execution.proofs.Operations.{done_memory, done_status}
+use Rattle.dsa_core.specs.declared.partial.OperationPartial.{OperationPartial}
+use Rattle.dsa_core.specs.Operations.{operation_machine}
+use Rattle.dsa_core.proofs.OperationSteps.{done_memory, done_status}
 
 -- they are as many
 counts : (ds : List Descriptor) → length (as_operations ds) ≡ length (map fields ds)

@@ -20,10 +20,10 @@ use Rattle.dsa_operations.specs.declared.checksum_op.Seed.{Seed}
 use Rattle.dsa_operations.specs.Checksums.{variant_of}
 use Rattle.dsa_operations.specs.Fields.{ChecksumFields}
 use Rattle.dsa_operations.specs.Operands.{source_field}
-use Rattle.dsa_execution.specs.Checksums.{begun_value, checksum_done, checksum_value, copied_data, value_record}
+use Rattle.dsa_core.specs.Checksums.{begun_value, checksum_done, checksum_value, copied_data, value_record}
 use Rattle.dsa_execution.specs.Left.{CopyIsLeft, OthersAreLeft, RecordIsLeft, ValueIsLeft}
-use Rattle.dsa_execution.proofs.Local.{copied_data_outside, record_outside}
-use Rattle.dsa_execution.proofs.Values.{checksum_fits}
+use Rattle.dsa_core.proofs.Local.{copied_data_outside, record_outside}
+use Rattle.dsa_core.proofs.Values.{checksum_fits}
 
 -- a memory has the same addresses after it
 pub done_addresses : (f : ChecksumFields) (m : Memory) → SameAddresses (checksum_done f m) m

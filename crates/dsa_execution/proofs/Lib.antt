@@ -1,8 +1,3 @@
-pub mod Values
-pub mod Sources
-pub mod Local
-pub mod Lines
-pub mod Operations
 pub mod Runs
 pub mod Left
 pub mod Seeds

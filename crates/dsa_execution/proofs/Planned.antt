@@ -11,7 +11,7 @@ use Rattle.dsa_operations.specs.Operations.{OperationConflictAt}
 use Rattle.dsa_settings.specs.Epochs.{epoch_of}
 use Rattle.dsa_settings.proofs.Barriers.{barriers_part, legal_is_kept}
 use Rattle.dsa_execution.specs.Headline.{CanExecute}
-use Rattle.dsa_execution.specs.Operations.{operation_machine}
+use Rattle.dsa_core.specs.Operations.{operation_machine}
 use Rattle.dsa_execution.specs.Planned.{PlannedCanExecute, PlannedKeepsBarriers}
 use Rattle.dsa_execution.proofs.Runs.{progress_count}
 

@@ -25,13 +25,13 @@ use Rattle.dsa_operations.specs.Operands.{source_field}
 use Rattle.dsa_operations.specs.Operations.{reads_of, writes_of}
 use Rattle.dsa_resume.proofs.Descriptors.{changed_over, is_work}
 use Rattle.dsa_resume.proofs.Working.{IsWork}
-use Rattle.dsa_execution.specs.Checksums.{checksum_done, checksum_value, copied_data, value_record}
-use Rattle.dsa_execution.specs.Operations.{operation_done, operation_machine}
+use Rattle.dsa_core.specs.Checksums.{checksum_done, checksum_value, copied_data, value_record}
+use Rattle.dsa_core.specs.Operations.{operation_done, operation_machine}
 use Rattle.dsa_execution.specs.Resuming.{OperationsInOrder, operation_overwrites, operation_work}
 use Rattle.dsa_execution.proofs.Left.{done_addresses}
-use Rattle.dsa_execution.proofs.Local.{begun_same, copied_data_same}
-use Rattle.dsa_execution.proofs.Operations.{done_memory, operation_local}
-use Rattle.dsa_execution.proofs.Sources.{bytes_from_same}
+use Rattle.dsa_core.proofs.Local.{begun_same, copied_data_same}
+use Rattle.dsa_core.proofs.OperationSteps.{done_memory, operation_local}
+use Rattle.dsa_core.proofs.Sources.{bytes_from_same}
 
 -- ---- where a checksum writes
 

@@ -21,9 +21,10 @@ use Rattle.dsa_operations.specs.declared.operation.Operation.{Operation}
 use Rattle.dsa_settings.specs.Epochs.{epoch_of}
 use Rattle.dsa_settings.specs.Plan.{Plan}
 use Rattle.dsa_settings.proofs.Epochs.{epochs_follow}
-use Rattle.dsa_execution.specs.Operations.{OperationPartial, executed, operation_machine}
+use Rattle.dsa_core.specs.declared.partial.OperationPartial.{OperationPartial}
+use Rattle.dsa_core.specs.Operations.{executed, operation_machine}
 use Rattle.dsa_execution.specs.Headline.{CanExecute, EveryExecutionIsInOrder, ExecutionsAgree, ExecutionsExist, IsExecutedTo, IsExecution, SuccessIsWhole, statuses_of}
-use Rattle.dsa_execution.proofs.Operations.{memory_is_executed, operation_local}
+use Rattle.dsa_core.proofs.OperationSteps.{memory_is_executed, operation_local}
 
 module _ (greatest_batch : ℕ) (operations : List Operation) (plan : Plan) (m : Memory) (engines : ℕ) (can : CanExecute greatest_batch operations plan m) where
   abbrev setup : Setup Operation

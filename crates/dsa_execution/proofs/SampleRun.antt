@@ -19,9 +19,9 @@ use Rattle.dsa_operations.specs.Fields.{ChecksumFields}
 use Rattle.dsa_operations.specs.Operations.{OperationConflictAt}
 use Rattle.dsa_settings.specs.Legal.{IsLegal, IsLegalGroup}
 use Rattle.dsa_settings.specs.Plan.{Group, start_of}
-use Rattle.dsa_execution.specs.Checksums.{checksum_done}
+use Rattle.dsa_core.specs.Checksums.{checksum_done}
 use Rattle.dsa_execution.specs.Headline.{statuses_of}
-use Rattle.dsa_execution.specs.Operations.{operation_machine}
+use Rattle.dsa_core.specs.Operations.{operation_machine}
 use Rattle.dsa_execution.specs.Samples.{EveryRunLeavesTheValue, TheyCanExecute, digits_memory, first_digits, last_digits}
 use Rattle.dsa_execution.proofs.Left.{done_addresses, value_is_left}
 use Rattle.dsa_execution.proofs.Runs.{success_is_whole}

@@ -5,7 +5,7 @@ use Rattle.dsa_descriptor.specs.Spans.{InSome, span}
 use Rattle.dsa_image.specs.Basics.{copied}
 use Rattle.dsa_image.specs.Memory.{byte_at, bytes_from, changed, is_between, written}
 use Rattle.dsa_operations.specs.Data.{checksum_writes}
-use Rattle.dsa_execution.specs.Checksums.{checksum_done}
+use Rattle.dsa_core.specs.Checksums.{checksum_done}
 use Rattle.dsa_execution.specs.Samples.{after_digits_checksum, after_digits_copy, digits_checksum, digits_copy, digits_memory, first_digits, last_digits}
 use Rattle.dsa_execution.specs.Seeds.{IsChain, last_value}
 

@@ -10,11 +10,11 @@ use Rattle.dsa_image.proofs.Executed.{Holds-same}
 use Rattle.dsa_operations.specs.Checksums.{variant_of}
 use Rattle.dsa_operations.specs.Fields.{ChecksumFields}
 use Rattle.dsa_operations.specs.Operands.{source_field}
-use Rattle.dsa_execution.specs.Checksums.{begun_value, checksum_done, checksum_value, seed_value}
+use Rattle.dsa_core.specs.Checksums.{begun_value, checksum_done, checksum_value, seed_value}
 use Rattle.dsa_execution.specs.Seeds.{ChainsGoOn, total_size}
 use Rattle.dsa_execution.proofs.Left.{done_addresses, others_are_left, value_read}
-use Rattle.dsa_execution.proofs.Sources.{bytes_from_join, bytes_from_same}
-use Rattle.dsa_execution.proofs.Values.{goes_on_from}
+use Rattle.dsa_core.proofs.Sources.{bytes_from_join, bytes_from_same}
+use Rattle.dsa_core.proofs.Values.{goes_on_from}
 
 -- the memory has the record
 abbrev HasRecord : Memory → ChecksumFields → Type 0

@@ -13,7 +13,8 @@ use Rattle.dsa_operations.specs.declared.operation.Operation.{Operation}
 use Rattle.dsa_operations.specs.declared.operation.Operation.TheVariants as operation
 use Rattle.dsa_settings.specs.Plan.{Plan}
 use Rattle.dsa_execution.specs.Headline.{CanExecute, IsExecution, statuses_of}
-use Rattle.dsa_execution.specs.Operations.{OperationPartial, executed}
+use Rattle.dsa_core.specs.declared.partial.OperationPartial.{OperationPartial}
+use Rattle.dsa_core.specs.Operations.{executed}
 
 -- descriptors as operations
 abbrev pub as_operations : List Descriptor → List Operation

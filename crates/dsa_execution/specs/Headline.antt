@@ -14,7 +14,8 @@ use Rattle.dsa_operations.specs.Operations.{OperationConflictAt}
 use Rattle.dsa_settings.specs.Epochs.{epoch_of}
 use Rattle.dsa_settings.specs.Legal.{IsLegal}
 use Rattle.dsa_settings.specs.Plan.{Plan}
-use Rattle.dsa_execution.specs.Operations.{OperationPartial, executed, operation_machine}
+use Rattle.dsa_core.specs.declared.partial.OperationPartial.{OperationPartial}
+use Rattle.dsa_core.specs.Operations.{executed, operation_machine}
 
 -- what a run requires: the plan is legal for the operations, and the memory has each address that they read or write
 pub record CanExecute (greatest_batch : ℕ) (operations : List Operation) (plan : Plan) (m : Memory) : Type 0 where

@@ -9,7 +9,7 @@ use Rattle.dsa_operations.specs.declared.checksum_op.Seed.{Seed}
 use Rattle.dsa_operations.specs.Data.{checksum_writes}
 use Rattle.dsa_operations.specs.Fields.{ChecksumFields}
 use Rattle.dsa_operations.specs.Profile.{IsListedChecksum}
-use Rattle.dsa_execution.specs.Checksums.{checksum_done, checksum_value, value_record}
+use Rattle.dsa_core.specs.Checksums.{checksum_done, checksum_value, value_record}
 
 -- the completion record is there, with the value
 abbrev pub RecordIsLeft : Type 0

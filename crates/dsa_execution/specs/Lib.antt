@@ -1,5 +1,3 @@
-pub mod Checksums
-pub mod Operations
 pub mod Headline
 pub mod Left
 pub mod Seeds

@@ -12,7 +12,8 @@ use Rattle.dsa_lists.specs.Submissions.{IsLeastOfOperations, OperationSubmission
 use Rattle.dsa_settings.specs.Barriers.{IsBarrier}
 use Rattle.dsa_settings.specs.Settings.{Limits}
 use Rattle.dsa_execution.specs.Headline.{CanExecute}
-use Rattle.dsa_execution.specs.Operations.{OperationPartial, operation_machine}
+use Rattle.dsa_core.specs.declared.partial.OperationPartial.{OperationPartial}
+use Rattle.dsa_core.specs.Operations.{operation_machine}
 
 -- what planning answers for a list of operations can be run on each memory that has what they read and write
 abbrev pub PlannedCanExecute : Type 0

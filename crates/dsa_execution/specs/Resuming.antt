@@ -8,7 +8,7 @@ use Rattle.dsa_operations.specs.Checksums.{checksum_fields}
 use Rattle.dsa_operations.specs.Data.{checksum_writes}
 use Rattle.dsa_operations.specs.Operations.{OperationConflictAt, reads_of, writes_of}
 use Rattle.dsa_resume.specs.Work.{Work, descriptor_overwrites, in_order}
-use Rattle.dsa_execution.specs.Operations.{executed, operation_done}
+use Rattle.dsa_core.specs.Operations.{executed, operation_done}
 
 -- an operation that is done writes a new byte to the address: a checksum wherever it writes, its completion record and a copy
 abbrev pub operation_overwrites : Operation → Memory → ℕ → Type 0

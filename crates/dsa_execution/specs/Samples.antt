@@ -12,7 +12,7 @@ use Rattle.dsa_operations.specs.declared.operation.Operation.TheVariants as oper
 use Rattle.dsa_operations.specs.Checksums.{checksum_fields}
 use Rattle.dsa_operations.specs.Fields.{ChecksumFields}
 use Rattle.dsa_execution.specs.Headline.{CanExecute, IsExecution}
-use Rattle.dsa_execution.specs.Operations.{OperationPartial}
+use Rattle.dsa_core.specs.declared.partial.OperationPartial.{OperationPartial}
 
 -- a checksum with these flags, record address, size and operation, and with zero elsewhere
 abbrev pub sample : ℕ → ℕ → ℕ → ChecksumOp → ChecksumFields

@@ -10,7 +10,7 @@ use Rattle.dsa_operations.specs.Data.{checksum_writes}
 use Rattle.dsa_operations.specs.Fields.{ChecksumFields}
 use Rattle.dsa_operations.specs.Operands.{seed_of, source_field}
 use Rattle.dsa_ranges.specs.Hazards.{AreApart}
-use Rattle.dsa_execution.specs.Checksums.{begun_value, checksum_done, checksum_value}
+use Rattle.dsa_core.specs.Checksums.{begun_value, checksum_done, checksum_value}
 
 -- the second goes on where the first ends: over the bytes after its source, from the value in its record, in the same variant
 pub record GoesOn (f g : ChecksumFields) : Type 0 where

@@ -96,7 +96,7 @@ impl ChecksumOp {
     }
 
     /// The seed.
-    fn seed(&self) -> Seed
+    pub fn seed(&self) -> Seed
         ensures { result ≡ seed_of self.now }
     {
         match *self {
@@ -105,7 +105,7 @@ impl ChecksumOp {
     }
 
     /// The address of the source, bytes 16 to 23 of a descriptor.
-    pub(crate) fn source_field(&self) -> u64
+    pub fn source_field(&self) -> u64
         ensures { result ≡ source_field self.now }
     {
         match *self {

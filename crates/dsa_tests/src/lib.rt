@@ -29,6 +29,8 @@ mod lines;
 #[cfg(test)]
 mod listing;
 #[cfg(test)]
+mod operation_runs;
+#[cfg(test)]
 mod operations;
 #[cfg(test)]
 mod plan;

@@ -1,4 +1,4 @@
-use Rattle.dsa_execution.proofs.Lines as laws
+use Rattle.dsa_core.proofs.Lines as laws
 use Rattle.dsa_execution.proofs.laws.checksum_lines_make_done.Goals as goal
 
 pub returns : goal.returns

@@ -1,4 +1,4 @@
-use Rattle.dsa_execution.proofs.Local as laws
+use Rattle.dsa_core.proofs.Local as laws
 use Rattle.dsa_execution.proofs.laws.every_checksum_is_local.Goals as goal
 
 pub returns : goal.returns

@@ -1,7 +1,7 @@
 use Rattle.dsa_core.proofs.Counts.{runs_are_bounded}
 use Rattle.dsa_core.proofs.Moments.{complete_is_last, every_moment_goes_on}
 use Rattle.dsa_core.proofs.StopPoint.{nothing_beyond_starts}
-use Rattle.dsa_execution.specs.Operations.{operation_machine}
+use Rattle.dsa_core.specs.Operations.{operation_machine}
 use Rattle.dsa_execution.proofs.laws.every_execution_goes_on.Goals as goal
 
 pub returns : goal.returns

@@ -1,4 +1,4 @@
-use Rattle.dsa_execution.proofs.Operations as laws
+use Rattle.dsa_core.proofs.OperationSteps as laws
 use Rattle.dsa_execution.proofs.laws.machine_does_operations.Goals as goal
 
 pub returns : goal.returns

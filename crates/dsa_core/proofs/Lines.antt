@@ -16,10 +16,10 @@ use Rattle.dsa_operations.specs.Data.{sources}
 use Rattle.dsa_operations.specs.Fields.{ChecksumFields}
 use Rattle.dsa_operations.specs.Operands.{source_field}
 use Rattle.dsa_operations.specs.Profile.{RegionsApart}
-use Rattle.dsa_execution.specs.Checksums.{begun_value, checksum_done, checksum_line, checksum_machine, checksum_value, copied_data, value_before, value_record}
-use Rattle.dsa_execution.proofs.Local.{begun_same, copied_data_outside, part_fits, part_same}
-use Rattle.dsa_execution.proofs.Sources.{bytes_from_join, bytes_from_none}
-use Rattle.dsa_execution.proofs.Values.{goes_on_from}
+use Rattle.dsa_core.specs.Checksums.{begun_value, checksum_done, checksum_line, checksum_machine, checksum_value, copied_data, value_before, value_record}
+use Rattle.dsa_core.proofs.Local.{begun_same, copied_data_outside, part_fits, part_same}
+use Rattle.dsa_core.proofs.Sources.{bytes_from_join, bytes_from_none}
+use Rattle.dsa_core.proofs.Values.{goes_on_from}
 
 -- ---- parts of a copy
 

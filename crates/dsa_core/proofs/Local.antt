@@ -22,8 +22,8 @@ use Rattle.dsa_operations.specs.Checksums.{variant_of}
 use Rattle.dsa_operations.specs.Data.{checksum_reads, seed_spans, sources, targets}
 use Rattle.dsa_operations.specs.Fields.{ChecksumFields}
 use Rattle.dsa_operations.specs.Operands.{seed_of, source_field}
-use Rattle.dsa_execution.specs.Checksums.{checksum_finish, checksum_line, checksum_machine, copied_data, seed_value, value_before, value_record}
-use Rattle.dsa_execution.proofs.Sources.{bytes_from_same}
+use Rattle.dsa_core.specs.Checksums.{checksum_finish, checksum_line, checksum_machine, copied_data, seed_value, value_before, value_record}
+use Rattle.dsa_core.proofs.Sources.{bytes_from_same}
 
 -- ---- changes
 

@@ -12,10 +12,11 @@ use Rattle.dsa_operations.specs.declared.operation.Operation.TheVariants.{Checks
 use Rattle.dsa_descriptor.specs.declared.descriptor.Descriptor.{Descriptor}
 use Rattle.dsa_operations.specs.declared.checksum.Checksum.{Checksum}
 use Rattle.dsa_operations.specs.Checksums.{checksum_fields}
-use Rattle.dsa_execution.specs.Checksums.{checksum_machine}
-use Rattle.dsa_execution.specs.Operations.{OperationPartial, after_checksum, after_descriptor, executed, operation_done, operation_machine, operation_status}
-use Rattle.dsa_execution.proofs.Lines as checksums
-use Rattle.dsa_execution.proofs.Local.{checksum_local}
+use Rattle.dsa_core.specs.Checksums.{checksum_machine}
+use Rattle.dsa_core.specs.declared.partial.OperationPartial.{OperationPartial}
+use Rattle.dsa_core.specs.Operations.{after_checksum, after_descriptor, executed, operation_done, operation_machine, operation_status}
+use Rattle.dsa_core.proofs.Lines as checksums
+use Rattle.dsa_core.proofs.Local.{checksum_local}
 
 -- ---- locality
 

@@ -11,7 +11,8 @@ use Rattle.dsa_operations.specs.declared.operation.Operation.{Operation}
 use Rattle.dsa_operations.specs.declared.operation.Operation.TheVariants.{Checksum, Descriptor}
 use Rattle.dsa_operations.specs.Checksums.{checksum_fields}
 use Rattle.dsa_operations.specs.Operations.{reads_of, writes_of}
-use Rattle.dsa_execution.specs.Checksums.{checksum_done, checksum_machine, checksum_status}
+use Rattle.dsa_core.specs.declared.partial.OperationPartial.{OperationPartial}
+use Rattle.dsa_core.specs.Checksums.{checksum_done, checksum_machine, checksum_status}
 
 -- ---- whole operations
 
@@ -30,11 +31,6 @@ abbrev pub executed : List Operation → Memory → Memory
 executed operations m = fold (λ before operation. operation_done operation before) m operations
 
 -- ---- operations as pieces of work
-
--- the partial answer of a descriptor, and that of a checksum
-pub record OperationPartial : Type 0 where
-  pub found : Partial
-  pub value : ℕ
 
 -- how many lines an operation has
 abbrev pub operation_lines : Operation → ℕ

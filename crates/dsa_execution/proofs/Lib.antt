@@ -1,4 +1,5 @@
 pub mod Runs
+pub mod Engines
 pub mod Left
 pub mod Seeds
 pub mod SamplesHold

@@ -1,31 +1,27 @@
 -- What every complete run of a list of operations leaves.
-use Rattle.std.specs.Prelude.{◌≡◌, ℕ, ◌<◌, All, List, length, take}
+use Rattle.std.specs.Prelude.{◌≡◌, ℕ, ◌<◌, List, length, take}
 use Rattle.dsa_core.specs.declared.event.Event.{Event}
 use Rattle.dsa_core.specs.BatchRecords.{batch_records, records_shown}
 use Rattle.dsa_core.specs.Epochs.{setup_of}
 use Rattle.dsa_core.specs.Laws.{IsInOrderTo}
-use Rattle.dsa_core.specs.Machine.{HoldsPiece}
 use Rattle.dsa_core.specs.Order.{statuses_in_order}
-use Rattle.dsa_core.specs.Run.{IsComplete, IsRun, State}
+use Rattle.dsa_core.specs.Run.{State}
+use Rattle.dsa_core.specs.WorkRuns.{CanWork, IsCompleteWorkRun}
 use Rattle.dsa_core.specs.StopPoint.{AllSucceed, IsStopPoint}
 use Rattle.dsa_image.specs.Memory.{Memory}
 use Rattle.dsa_operations.specs.declared.operation.Operation.{Operation}
-use Rattle.dsa_operations.specs.Operations.{OperationConflictAt}
 use Rattle.dsa_settings.specs.Epochs.{epoch_of}
-use Rattle.dsa_settings.specs.Legal.{IsLegal}
 use Rattle.dsa_settings.specs.Plan.{Plan}
 use Rattle.dsa_core.specs.declared.partial.OperationPartial.{OperationPartial}
 use Rattle.dsa_core.specs.Operations.{executed, operation_machine}
 
 -- what a run requires: the plan is legal for the operations, and the memory has each address that they read or write
-pub record CanExecute (greatest_batch : ℕ) (operations : List Operation) (plan : Plan) (m : Memory) : Type 0 where
-  pub legal : IsLegal (OperationConflictAt operations) greatest_batch (length operations) plan
-  pub holds : All (HoldsPiece operation_machine m) operations
+abbrev pub CanExecute : ℕ → List Operation → Plan → Memory → Type 0
+CanExecute greatest_batch operations plan m = CanWork operation_machine greatest_batch operations plan m
 
 -- the events are a complete run of the operations under the plan, by that many engines, from the memory m to the state s
-pub record IsExecution (plan : Plan) (operations : List Operation) (engines : ℕ) (m : Memory) (events : List Event) (s : State OperationPartial) : Type 0 where
-  pub is_run : IsRun operation_machine (setup_of plan operations engines) m events s
-  pub complete : IsComplete (setup_of plan operations engines) s
+abbrev pub IsExecution : Plan → List Operation → ℕ → Memory → List Event → State OperationPartial → Type 0
+IsExecution plan operations engines m events s = IsCompleteWorkRun operation_machine plan operations engines m events s
 
 -- the status of each operation when they are executed in order
 abbrev pub statuses_of : List Operation → Memory → List ℕ

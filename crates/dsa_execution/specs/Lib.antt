@@ -1,4 +1,5 @@
 pub mod Headline
+pub mod Engines
 pub mod Left
 pub mod Seeds
 pub mod Samples

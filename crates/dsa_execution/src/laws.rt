@@ -9,6 +9,7 @@ ghost use Rattle.dsa_descriptor.specs.Data.{record_span};
 ghost use Rattle.dsa_descriptor.specs.Spans.{InSome};
 ghost use Rattle.dsa_execution.specs.Alike.{SameMemory, SamePremises, SameRuns, SameStatuses};
 ghost use Rattle.dsa_core.specs.Checksums.{checksum_done, checksum_finish, checksum_line, checksum_machine, checksum_value, copied_data};
+ghost use Rattle.dsa_execution.specs.Engines.{OutcomeIsExecuted, ReadyIfCanExecute};
 ghost use Rattle.dsa_execution.specs.Headline.{EveryExecutionIsInOrder, ExecutionsAgree, ExecutionsExist, SuccessIsWhole};
 ghost use Rattle.dsa_execution.specs.Left.{CopyIsLeft, OthersAreLeft, RecordIsLeft, ValueIsLeft};
 ghost use Rattle.dsa_core.specs.Operations.{executed, operation_done, operation_machine, operation_status};
@@ -100,6 +101,12 @@ pub fn every_execution_is_in_order()
     ensures succeeds { SuccessIsWhole }
     ensures agree { ExecutionsAgree }
     ensures exist { ExecutionsExist }
+{}
+
+/// Engines can run what can be executed, and what their run answers is what every execution leaves.
+pub fn engines_execute()
+    ensures ready { ReadyIfCanExecute }
+    ensures outcome { OutcomeIsExecuted }
 {}
 
 /// What can come next at a moment of a run of operations: until it is complete, an idle engine can take each waiting

@@ -15,7 +15,7 @@ use Rattle.dsa_descriptor.specs.Operands as descriptor
 use Rattle.dsa_descriptor.specs.Operands.{code_of, first_field, second_field, own_len}
 use Rattle.dsa_descriptor.specs.Profile.{FieldsFit}
 use Rattle.dsa_descriptor.specs.Spans.{InSome, span}
-use Rattle.dsa_descriptor.specs.Spelling.{owner_word, spelling}
+use Rattle.dsa_descriptor.specs.Spelling.{operation_word, owner_word, spelling}
 use Rattle.dsa_emission.specs.declared.place.Place.{Place}
 use Rattle.dsa_descriptor.specs.Fences.{fenced}
 use Rattle.dsa_emission.specs.Emission.{batch_spelling}
@@ -30,6 +30,7 @@ use Rattle.dsa_operations.specs.declared.operation.Operation.TheVariants as oper
 use Rattle.dsa_operations.specs.Checksums.{checksum_fields}
 use Rattle.dsa_operations.specs.Data as data_spans
 use Rattle.dsa_operations.specs.Data.{seed_spans}
+use Rattle.dsa_operations.specs.Operations.{spelling_of}
 use Rattle.dsa_operations.specs.Operands as operands
 use Rattle.dsa_operations.specs.Operands.{address_field, destination_field, given_field, given_value, has_flag, is_in_memory, seed_address, seed_of, source_field}
 use Rattle.dsa_operations.specs.Profile as checksum_profile
@@ -39,7 +40,7 @@ use Rattle.dsa_operations.specs.Spelling.{checksum_spelling}
 use Rattle.dsa_prepared.specs.Relocated.{relocated_op, relocated_fields, relocated_checksum, relocated_checksum_op, relocated_seed, relocated_spelling}
 use Rattle.dsa_prepared.specs.Regions.{relocated, LiesInOne, LieInOne, PieceLies}
 use Rattle.dsa_prepared.proofs.Regions.{in_tells}
-use Rattle.dsa_prepared.specs.Entries.{word_at, word_value, filled_entry, own_bytes, reads_seed, first_word, second_word, own_word, source_word, destination_word, seed_word, entry_of, batch_entry_of}
+use Rattle.dsa_prepared.specs.Entries.{word_at, word_value, filled_entry, own_bytes, reads_seed, first_word, second_word, own_word, source_word, destination_word, seed_word, entry_of, batch_entry_of, words_of}
 use Rattle.dsa_prepared.specs.Preparing.{relocation}
 
 -- ---- addresses
@@ -213,60 +214,60 @@ module _ (rs : List Span) (bases : List ℕ) (staging : ℕ) (count : length bas
   own_stays head (ApplyDelta delta dst record_size) value none = refl
   own_stays head (Dualcast src dst dst2) value none = rw none refl
 
+  -- bytes 40 to 63 of a descriptor, and 40 to 55 of a checksum, as the entry of a piece gives them
+  abbrev own_of : Bool → Operation → List ℕ
+  own_of fence o = own_bytes (take 8 (fenced fence (spelling_of o))) (words_of rs o).own (word_value bases staging (words_of rs o).own)
+
+  -- the entry has the bytes of the operation, with the words' values in their places
+  abbrev descriptor_bytes : Bool → Descriptor → List ℕ
+  descriptor_bytes fence d =
+      to_le_bytes w32 (owner_word (fields d)) ++ to_le_bytes w32 (operation_word (fields d)) ++ to_le_bytes w64 (word_value bases staging (word_at rs d.record_at))
+      ++ to_le_bytes w64 (word_value bases staging (first_word rs d.op)) ++ to_le_bytes w64 (word_value bases staging (second_word rs d.op))
+      ++ to_le_bytes w32 d.size ++ to_le_bytes w16 d.int_handle ++ replicate 2 0 ++ (own_of fence (operation.Descriptor d) ++ replicate 8 0)
+
+  descriptor_given : (fence : Bool) (d : Descriptor) → filled_entry bases staging (entry_of rs fence (operation.Descriptor d)) ≡ fenced fence (descriptor_bytes fence d)
+  unfolding spelling
+  descriptor_given true d = refl
+  descriptor_given false d = refl
+
   descriptor_filled : (fence : Bool) (d : Descriptor) → LieInOne rs (fields d) → filled_entry bases staging (entry_of rs fence (operation.Descriptor d)) ≡ fenced fence (spelling (relocated_fields (relocated (relocation rs bases)) (fields d)))
   unfolding spelling
-  descriptor_filled true d lie =
+  descriptor_filled fence d lie =
       let code = code_stays d.op in
       let at = goes d.record_at 32 lie.1.0 in
       let first = first_goes d.op d.size lie.0 lie.1.1 in
       let second = second_goes d.op d.size lie.0 lie.1.1 in
-      let own : own_bytes (take 8 (fenced true (spelling (fields d)))) (own_word rs d.op) (word_value bases staging (own_word rs d.op)) ++ replicate 8 0
-      ≡ descriptor.own_bytes (relocated_op (relocated (relocation rs bases)) d.op) ++ replicate (24 - own_len (relocated_op (relocated (relocation rs bases)) d.op)) 0 =
-      ap (λ (xs : List ℕ). xs ++ replicate 8 0) (own_stays (take 8 (fenced true (spelling (fields d)))) d.op (word_value bases staging (own_word rs d.op)) (descriptor_reads_none true d)) ∙ own_goes d.op d.size lie.1.1 d.listed.op_fits in
-      λ i.
-      fenced true (to_le_bytes w32 (owner_word (fields d)) ++ to_le_bytes w32 (d.flags.0 + code i * 2 ^ 24) ++ to_le_bytes w64 (at i) ++ to_le_bytes w64 (first i)
-      ++ to_le_bytes w64 (second i) ++ to_le_bytes w32 d.size ++ to_le_bytes w16 d.int_handle ++ replicate 2 0 ++ own i)
-  descriptor_filled false d lie =
-      let code = code_stays d.op in
-      let at = goes d.record_at 32 lie.1.0 in
-      let first = first_goes d.op d.size lie.0 lie.1.1 in
-      let second = second_goes d.op d.size lie.0 lie.1.1 in
-      let own : own_bytes (take 8 (fenced false (spelling (fields d)))) (own_word rs d.op) (word_value bases staging (own_word rs d.op)) ++ replicate 8 0
-      ≡ descriptor.own_bytes (relocated_op (relocated (relocation rs bases)) d.op) ++ replicate (24 - own_len (relocated_op (relocated (relocation rs bases)) d.op)) 0 =
-      ap (λ (xs : List ℕ). xs ++ replicate 8 0) (own_stays (take 8 (fenced false (spelling (fields d)))) d.op (word_value bases staging (own_word rs d.op)) (descriptor_reads_none false d)) ∙ own_goes d.op d.size lie.1.1 d.listed.op_fits in
-      λ i.
+      let head : List ℕ = take 8 (fenced fence (spelling (fields d))) in
+      let own = ap (λ (xs : List ℕ). xs ++ replicate 8 0) (own_stays head d.op (word_value bases staging (own_word rs d.op)) (descriptor_reads_none fence d)) ∙ own_goes d.op d.size lie.1.1 d.listed.op_fits in
+      descriptor_given fence d ∙ ap (fenced fence) (λ i.
       to_le_bytes w32 (owner_word (fields d)) ++ to_le_bytes w32 (d.flags.0 + code i * 2 ^ 24) ++ to_le_bytes w64 (at i) ++ to_le_bytes w64 (first i)
-      ++ to_le_bytes w64 (second i) ++ to_le_bytes w32 d.size ++ to_le_bytes w16 d.int_handle ++ replicate 2 0 ++ own i
+      ++ to_le_bytes w64 (second i) ++ to_le_bytes w32 d.size ++ to_le_bytes w16 d.int_handle ++ replicate 2 0 ++ own i)
+
+  abbrev checksum_bytes : Bool → Checksum → List ℕ
+  checksum_bytes fence c =
+      to_le_bytes w32 (checksum_words.owner_word (checksum_fields c)) ++ to_le_bytes w32 (checksum_words.operation_word (checksum_fields c)) ++ to_le_bytes w64 (word_value bases staging (word_at rs c.record_at))
+      ++ to_le_bytes w64 (word_value bases staging (source_word rs c.op)) ++ to_le_bytes w64 (word_value bases staging (destination_word rs c.op))
+      ++ to_le_bytes w32 c.size ++ to_le_bytes w16 c.int_handle ++ replicate 2 0 ++ own_of fence (operation.Checksum c) ++ replicate 8 0
+
+  checksum_given : (fence : Bool) (c : Checksum) → filled_entry bases staging (entry_of rs fence (operation.Checksum c)) ≡ fenced fence (checksum_bytes fence c)
+  unfolding checksum_spelling
+  checksum_given true c = refl
+  checksum_given false c = refl
 
   checksum_filled : (fence : Bool) (c : Checksum) → PieceLies rs (operation.Checksum c) →
       filled_entry bases staging (entry_of rs fence (operation.Checksum c)) ≡ fenced fence (checksum_spelling (relocated_checksum (relocated (relocation rs bases)) (checksum_fields c)))
   unfolding checksum_spelling
-  checksum_filled true c lie =
+  checksum_filled fence c lie =
       let code = checksum_code_stays c.op in
       let at = goes c.record_at 32 lie.1.0 in
       let first = source_goes c.op c.size lie.0 in
       let second = destination_goes c.op c.size lie.1.1 in
-      let seed = sym (seed_moves c.op) in
-      let own = seed_goes (take 8 (fenced true (checksum_spelling (checksum_fields c)))) (seed_of c.op) lie.0.1 (seed_fits c.op c.listed.op_fits) (checksum_reads_seed true c) in
-      let own' : own_bytes (take 8 (fenced true (checksum_spelling (checksum_fields c)))) (seed_word rs (seed_of c.op)) (word_value bases staging (seed_word rs (seed_of c.op)))
-      ≡ (to_le_bytes w32 (given_field (relocated_checksum_op (relocated (relocation rs bases)) c.op)) ++ replicate 4 0) ++ to_le_bytes w64 (address_field (relocated_checksum_op (relocated (relocation rs bases)) c.op)) =
-      own ∙ ap (λ (x : Seed). (to_le_bytes w32 (given_value x) ++ replicate 4 0) ++ to_le_bytes w64 (seed_address x)) seed in
-      λ i.
-      fenced true (to_le_bytes w32 (checksum_words.owner_word (checksum_fields c)) ++ to_le_bytes w32 (c.flags.0 + code i * 2 ^ 24) ++ to_le_bytes w64 (at i) ++ to_le_bytes w64 (first i)
-      ++ to_le_bytes w64 (second i) ++ to_le_bytes w32 c.size ++ to_le_bytes w16 c.int_handle ++ replicate 2 0 ++ own' i ++ replicate 8 0)
-  checksum_filled false c lie =
-      let code = checksum_code_stays c.op in
-      let at = goes c.record_at 32 lie.1.0 in
-      let first = source_goes c.op c.size lie.0 in
-      let second = destination_goes c.op c.size lie.1.1 in
-      let seed = sym (seed_moves c.op) in
-      let own = seed_goes (take 8 (fenced false (checksum_spelling (checksum_fields c)))) (seed_of c.op) lie.0.1 (seed_fits c.op c.listed.op_fits) (checksum_reads_seed false c) in
-      let own' : own_bytes (take 8 (fenced false (checksum_spelling (checksum_fields c)))) (seed_word rs (seed_of c.op)) (word_value bases staging (seed_word rs (seed_of c.op)))
-      ≡ (to_le_bytes w32 (given_field (relocated_checksum_op (relocated (relocation rs bases)) c.op)) ++ replicate 4 0) ++ to_le_bytes w64 (address_field (relocated_checksum_op (relocated (relocation rs bases)) c.op)) =
-      own ∙ ap (λ (x : Seed). (to_le_bytes w32 (given_value x) ++ replicate 4 0) ++ to_le_bytes w64 (seed_address x)) seed in
-      λ i.
+      let head : List ℕ = take 8 (fenced fence (checksum_spelling (checksum_fields c))) in
+      let own = seed_goes head (seed_of c.op) lie.0.1 (seed_fits c.op c.listed.op_fits) (checksum_reads_seed fence c)
+      ∙ ap (λ (x : Seed). (to_le_bytes w32 (given_value x) ++ replicate 4 0) ++ to_le_bytes w64 (seed_address x)) (sym (seed_moves c.op)) in
+      checksum_given fence c ∙ ap (fenced fence) (λ i.
       to_le_bytes w32 (checksum_words.owner_word (checksum_fields c)) ++ to_le_bytes w32 (c.flags.0 + code i * 2 ^ 24) ++ to_le_bytes w64 (at i) ++ to_le_bytes w64 (first i)
-      ++ to_le_bytes w64 (second i) ++ to_le_bytes w32 c.size ++ to_le_bytes w16 c.int_handle ++ replicate 2 0 ++ own' i ++ replicate 8 0
+      ++ to_le_bytes w64 (second i) ++ to_le_bytes w32 c.size ++ to_le_bytes w16 c.int_handle ++ replicate 2 0 ++ own i ++ replicate 8 0)
 
   pub piece_filled : (fence : Bool) (o : Operation) → PieceLies rs o → filled_entry bases staging (entry_of rs fence o) ≡ fenced fence (relocated_spelling (relocated (relocation rs bases)) o)
   piece_filled fence (operation.Descriptor d) lie = descriptor_filled fence d lie

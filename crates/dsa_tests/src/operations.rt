@@ -3,12 +3,13 @@
 use dsa_calls::{FencedFault, PlanFault};
 use dsa_checker::CheckFault;
 use dsa_descriptor::{
-    FieldFault, ListFault, descriptors_are_fenced_alike, entries_read_back, read_entries,
+    FieldFault, ListFault, Span, descriptors_are_fenced_alike, entries_read_back, read_entries,
     write_entries,
 };
 use dsa_lists::{check_any_list, plan_any_list, plan_operation_list, search_operations};
 use dsa_operations::{Operation, OperationList};
 use dsa_plan::{LegalFault, Settings};
+use dsa_prepared::{PrepareFault, fill_rows, prepare_any_list};
 use dsa_splitter::SplitFault;
 use std::test::Fail;
 
@@ -180,5 +181,79 @@ fn descriptors_are_split(rt: HostRuntime) -> Result<(), Fail> {
     list[7] = 0x11;
     let fault = plan_any_list(alloc, &list, &settings).err();
     assert!(rt; fault == Some(PlanFault::OverTransfer(0)));
+    Ok(())
+}
+
+/// The buffers of the two checksums, of the copy's source and its target, and the records.
+const BUFFERS: [Span; 4] = [
+    Span {
+        first: 0x1000,
+        len: 0x200,
+    },
+    Span {
+        first: 0x3000,
+        len: 0x40,
+    },
+    Span {
+        first: 0x4000,
+        len: 0x40,
+    },
+    Span {
+        first: 0x8000,
+        len: 0x60,
+    },
+];
+
+/// The two checksums and the copy with the buffers at 0x91000, 0x73001, 0x64000 and 0x58020.
+fn the_same_elsewhere() -> [u8; 192] {
+    let mut list = two_checksums_and_a_copy();
+    list[8..16].copy_from_slice(&0x5_8020u64.to_le_bytes());
+    list[16..24].copy_from_slice(&0x9_1000u64.to_le_bytes());
+    list[72..80].copy_from_slice(&0x5_8040u64.to_le_bytes());
+    list[80..88].copy_from_slice(&0x9_1100u64.to_le_bytes());
+    list[112..120].copy_from_slice(&0x5_8030u64.to_le_bytes());
+    list[136..144].copy_from_slice(&0x5_8060u64.to_le_bytes());
+    list[144..152].copy_from_slice(&0x7_3001u64.to_le_bytes());
+    list[152..160].copy_from_slice(&0x6_4000u64.to_le_bytes());
+    list
+}
+
+/// A seed's address goes with the records, in bytes 48 to 55; what is filled else is what was planned.
+#[test]
+fn checksums_are_filled_for_other_buffers(rt: HostRuntime) -> Result<(), Fail> {
+    let alloc = rt.alloc();
+    let settings = Settings::new(32, 4096, 10, 14, 3, 0x1_0000)?;
+    let list = two_checksums_and_a_copy();
+    let costed = prepare_any_list(alloc, &list, &settings, &BUFFERS)?;
+    let bases = [0x9_1000, 0x7_3001, 0x6_4000, 0x5_8020];
+    let (mut portal, mut area) = ([9; 64], [9; 224]);
+    fill_rows(
+        costed.prepared.as_rows(),
+        &bases,
+        0x2_0000,
+        &mut portal,
+        &mut area,
+    )?;
+    let there = Settings::new(32, 4096, 10, 14, 3, 0x2_0000)?;
+    let planned = plan_any_list(alloc, &the_same_elsewhere(), &there)?;
+    let mut staging = [0; 224];
+    staging[..192].copy_from_slice(&the_same_elsewhere());
+    staging[68] = 0x0d;
+    assert!(rt; costed.cost == 20 && planned.cost == 20);
+    assert!(rt; area == staging);
+    assert!(rt; planned.emission.staging.as_slice() == area.as_slice());
+    assert!(rt; planned.emission.portal.as_slice() == portal.as_slice());
+    Ok(())
+}
+
+/// The last byte of the seed comes after the buffer.
+#[test]
+fn a_seed_outside_of_the_buffers_is_refused(rt: HostRuntime) -> Result<(), Fail> {
+    let alloc = rt.alloc();
+    let settings = Settings::new(32, 4096, 10, 14, 3, 0x1_0000)?;
+    let mut list = two_checksums_and_a_copy();
+    list[112..120].copy_from_slice(&0x11fdu64.to_le_bytes());
+    let fault = prepare_any_list(alloc, &list, &settings, &BUFFERS).err();
+    assert!(rt; fault == Some(PrepareFault::Outside(1)));
     Ok(())
 }

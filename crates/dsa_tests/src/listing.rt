@@ -1,7 +1,8 @@
 use dsa_descriptor::{FieldFault, ListFault};
 use dsa_lines::{
-    Expected, TextFault, assemble, canonical_text_spells, disassemble, one_text_one_list,
-    text_spells_one,
+    Expected, TextFault, assemble, assemble_fenced, assemble_recording, canonical_text_spells,
+    disassemble, disassemble_portal, disassemble_staging, line_of_operation, one_text_one_list,
+    parse_text, text_spells_one, text_with_barriers,
 };
 use std::test::Fail;
 
@@ -67,4 +68,86 @@ fn refusals(rt: HostRuntime) -> Result<(), Fail> {
         Some(ListFault::Length)
     );
     Ok(())
+}
+
+/// A copy with a checksum, and after a barrier a checksum that goes on from where the first was put.
+const CHECKSUMS: &str =
+    "copy_crc 0x1000 -> 0x2000, 64 bytes, seed 0x0, record 0x8000\nbarrier\ncrc 0x2000, 64 bytes, seed at 0x8010, record 0x8020\n";
+
+/// The same without the barrier, as text and as that of a staging area.
+const WITHOUT_BARRIER: &str =
+    "copy_crc 0x1000 -> 0x2000, 64 bytes, seed 0x0, record 0x8000\ncrc 0x2000, 64 bytes, seed at 0x8010, record 0x8020\n";
+
+const STAGED: &str =
+    "copy_crc 0x1000 -> 0x2000, 64 bytes, seed 0x0, record 0x8000\nfence crc 0x2000, 64 bytes, seed at 0x8010, record 0x8020\n";
+
+/// Checksums in lists, portals, staging areas and recordings.
+#[test]
+fn checksums(rt: HostRuntime) -> Result<(), Fail> {
+    let alloc = rt.alloc();
+    let Ok(bytes) = assemble(alloc, CHECKSUMS.as_bytes()) else {
+        assert!(rt; false, "not assembled");
+        return Ok(());
+    };
+    match disassemble_portal(alloc, &bytes) {
+        Ok(text) => assert!(rt; text.as_str() == WITHOUT_BARRIER),
+        Err(_) => assert!(rt; false, "no portal"),
+    }
+    match assemble_recording(alloc, WITHOUT_BARRIER.as_bytes()) {
+        Ok(recorded) => assert_eq!(rt; recorded.as_slice(), bytes.as_slice()),
+        Err(fault) => assert!(rt; false, "{fault:?}"),
+    }
+    Ok(())
+}
+
+/// Checksums after a barrier: the flag fence in the bytes, and `fence` in the text of a staging area.
+#[test]
+fn fenced_checksums(rt: HostRuntime) -> Result<(), Fail> {
+    let alloc = rt.alloc();
+    match assemble_fenced(alloc, CHECKSUMS.as_bytes(), false) {
+        Ok((bytes, read)) => {
+            assert_eq!(rt; bytes.len(), 128);
+            assert_eq!(rt; bytes[68], 0x0d);
+            assert_eq!(rt; bytes[71], 0x10);
+            let text = text_with_barriers(alloc, &read.list.entries, &read.list.barriers)?;
+            assert!(rt; text.as_str() == CHECKSUMS);
+            match disassemble_staging(alloc, &bytes, 0x4000) {
+                Ok(text) => assert!(rt; text.as_str() == STAGED),
+                Err(_) => assert!(rt; false, "no staging area"),
+            }
+        }
+        Err(fault) => assert!(rt; false, "{fault:?}"),
+    }
+    match parse_text(alloc, STAGED.as_bytes(), true) {
+        Ok(read) => {
+            assert_eq!(rt; read.list.entries.len(), 2);
+            assert!(rt; read.list.barriers.as_slice() == [false, true].as_slice());
+            assert_eq!(rt; line_of_operation(&read.lines, 1), 2);
+        }
+        Err(fault) => assert!(rt; false, "{fault:?}"),
+    }
+    Ok(())
+}
+
+/// Faults of checksums name the lines of their operations.
+#[test]
+fn refused_checksums(rt: HostRuntime) {
+    let alloc = rt.alloc();
+    let refusals = [
+        (
+            "crc 0x1000, 64 bytes, record 0x8000\n\ncrc 0x1000, 64 bytes, record 0x8020, check\n",
+            TextFault::List(3, ListFault::Field(1, FieldFault::FlagBits)),
+        ),
+        (
+            "crc 0x1000, 64 bytes, record 0x8000\nmove 1 -> 2, 3 bytes, record 64, pasid 1",
+            TextFault::List(2, ListFault::MixedPasid(1)),
+        ),
+        (
+            "move 1 -> 2, 0 bytes, record 0\ncrc 0x1000, 64 bytes, seed\n",
+            TextFault::Grammar(2, 27, Expected::Seed),
+        ),
+    ];
+    for (text, fault) in &refusals {
+        assert_eq!(rt; assemble(alloc, text.as_bytes()).err(), Some(*fault));
+    }
 }

@@ -33,7 +33,7 @@ pub(crate) fn refusal(alloc: Global, text: String) -> AuditAnswer
 fn expected_words(line: &[u8], column: usize, expected: Expected) -> &'static str {
     let before = line.get(..column.saturating_sub(1)).unwrap_or(&[]);
     if expected == Expected::Operation && before.iter().all(u8::is_ascii_whitespace) {
-        "hexadecimal digits, or batch, fence, move, fill, compare, delta or dualcast"
+        "hexadecimal digits, or batch, fence, move, fill, compare, delta, dualcast, crc or copy_crc"
     } else {
         expected.text()
     }

@@ -8,7 +8,7 @@ use dsa_advice::{
 };
 use dsa_calls::PlanFault;
 use dsa_descriptor::{FieldFault, ListFault};
-use dsa_lines::{OperationLine, TextList, assemble_fenced, line_of_operation};
+use dsa_lines::{TextList, assemble_fenced, line_of_operation};
 use dsa_lists::descriptors_in;
 use dsa_operations::Operation;
 use dsa_plan::Settings;
@@ -41,23 +41,14 @@ fn job_of_list(alloc: Global, list: &[u8], settings: &Settings) -> Result<Answer
     Ok(Answer::done(job))
 }
 
-/// The refusal of a job whose list would have this operation, which no job takes.
+/// The refusal of a job whose list would have a checksum, or a barrier before an operation: of the first that is so, as
+/// `dsa` refuses the bytes.
 fn refused_in_job(
     alloc: Global,
-    lines: &[OperationLine<'_>],
-    operation: usize,
-    why: &str,
-    fault: FieldFault,
+    read: &TextList<'_>,
+    barrier: Option<usize>,
 ) -> Result<Answer, AllocError> {
-    let line = line_of_operation(lines, operation);
-    let words = format!(in alloc; "line {line}, operation {operation}: a job takes no {why}")?;
-    let fault = ListFault::Field(operation, fault);
-    Answer::fault_with(alloc, PlanFault::from(fault), &words)
-}
-
-/// The refusal of a job whose list would have a checksum.
-fn checksum_in_job(alloc: Global, read: &TextList<'_>) -> Result<Answer, AllocError> {
-    let first = read
+    let checksum = read
         .list
         .entries
         .iter()
@@ -65,14 +56,21 @@ fn checksum_in_job(alloc: Global, read: &TextList<'_>) -> Result<Answer, AllocEr
             Operation::Descriptor(_) => false,
             Operation::Checksum(_) => true,
         });
-    let operation = first.unwrap_or(0);
-    refused_in_job(
-        alloc,
-        &read.lines,
-        operation,
-        "checksum",
-        FieldFault::Opcode,
-    )
+    let (operation, why, fault) = match (checksum, barrier) {
+        (Some(checksum), Some(barrier)) if barrier < checksum => {
+            (barrier, "barrier before an operation", FieldFault::FlagBits)
+        }
+        (Some(checksum), _) => (checksum, "checksum", FieldFault::Opcode),
+        (None, barrier) => (
+            barrier.unwrap_or(0),
+            "barrier before an operation",
+            FieldFault::FlagBits,
+        ),
+    };
+    let line = line_of_operation(&read.lines, operation);
+    let words = format!(in alloc; "line {line}, operation {operation}: a job takes no {why}")?;
+    let fault = ListFault::Field(operation, fault);
+    Answer::fault_with(alloc, PlanFault::from(fault), &words)
 }
 
 /// The job to plan the list of a text, which has these bytes. One that can't be planned, or has barriers or checksums,
@@ -84,12 +82,9 @@ fn job_answer(
     list: &[u8],
     settings: &Settings,
 ) -> Result<Answer, AllocError> {
-    if let Some(operation) = read.list.barriers.iter().position(|mark| *mark) {
-        let why = "barrier before an operation";
-        return refused_in_job(alloc, &read.lines, operation, why, FieldFault::FlagBits);
-    }
-    let Some(found) = descriptors_in(alloc, &read.list)? else {
-        return checksum_in_job(alloc, read);
+    let barrier = read.list.barriers.iter().position(|mark| *mark);
+    let (Some(found), None) = (descriptors_in(alloc, &read.list)?, barrier) else {
+        return refused_in_job(alloc, read, barrier);
     };
     match pieces(alloc, &found.descriptors, settings) {
         Ok(_) => job_of_list(alloc, list, settings),

@@ -77,6 +77,7 @@ def USING():
         "### As jobs",
         "One command reads the recording",
         "A checksum of two blocks",
+        "As text it is `examples/barrier/checksum.txt`",
         "Two queues, and no wait between",
     ):
         session(block_after("docs/USING.md", words))

@@ -17,7 +17,7 @@ LEAST = model.Settings(4, 4096, 10, 14, 3, 0x10000)
 PAIR = "move 1 -> 2, 3 bytes, record 32"
 WRONG = [
     ("move 1", "column 7: expected ->, found the end of the line", "130 Line"),
-    ("MOVE 1 -> 2", "column 1: expected move, fill, compare, delta or dualcast, found 'MOVE'", "130 Line"),
+    ("MOVE 1", "column 1: expected move, fill, compare, delta, dualcast, crc or copy_crc, found 'MOVE'", "130 Line"),
     ("move 1 -> 2, 0 bytes, record 32", "operation {}: the transfer size is 0", "5 SizeZero {}"),
     ("move 1 -> 2, 3 bytes, record 33", "column 30, operation {}: ", "7 RecordAlign {}"),
     (f"{PAIR}, pasid 1", "column 40, operation {}: ", "12 MixedPasid {}"),
@@ -176,8 +176,34 @@ def resumed(text):
         sharing(text, folder)
         stopped_at_barriers(text, folder)
         other_records(text, folder)
+        checksums_left(text, folder)
         lacking = sum(forgone(text, folder, random.Random(seed)) for seed in range(200))
         expect(lacking > 50, f"only {lacking} pieces read what is given up")
+
+
+def checksums_left(text, folder):
+    """What is left of a list with checksums; of a compare alone can a record say that it has found a difference."""
+    first = "copy_crc 0x1000 -> 0x2000, 64 bytes, seed 0x0, record 0x8000\n"
+    second = "crc 0x5000, 256 bytes, seed at 0x8010, record 0x8020\n"
+    wrong = "warning: piece 1: its record has status 2, which only those of compares have: these may be other records, "
+    wrong += "or in another order\n"
+    for statuses, options, wanted, said in (
+        ((1, 1), [], "", ""),
+        ((1, 0), [], second, ""),
+        ((1, 3), ["--failed-first"], second, ""),
+        ((3, 0), [], first + second, ""),
+        ((0, 0), ["--failed-first"], first + second, ""),
+        ((1, 2), [], "", wrong),
+    ):
+        Path(folder, "some").write_bytes(b"".join(bytes([status]).ljust(32, b"\0") for status in statuses))
+        command = [text, "resume", *options, "--records", f"{folder}/some"]
+        ran = subprocess.run(command, input=first + second, capture_output=True, text=True)
+        got = (ran.returncode, ran.stdout, beside(ran))
+        expect(got == (0, wanted, said), f"checksums with {statuses}: wanted {wanted!r}, {said!r}, got {got}")
+    short = [text, "resume", "--greatest-transfer", "128", "--records", f"{folder}/some"]
+    ran = subprocess.run(short, input=first + second, capture_output=True, text=True)
+    is_refused = " [37 OverTransfer 1]\n" in ran.stderr
+    expect((ran.returncode, ran.stdout, is_refused) == (1, "", True), f"a checksum is split: {ran}")
 
 
 def forgone(text, folder, draw):

@@ -4,6 +4,7 @@ use dsa_explain::{
     Cell, Detail, ExplainFault, Explanation, GroupCost, MOST_PIECES, Reason,
     cells_are_pieces_and_fences, each_fence_once, explain, group_costs_add_up,
 };
+use dsa_lists::operations_of;
 use dsa_plan::{Group, LegalFault, Plan, Settings, SettingsFault};
 use dsa_ranges::{Hazard, HazardKind};
 use std::alloc::{AllocError, Global};
@@ -44,7 +45,7 @@ fn explained(
     Ok(explain(
         alloc,
         &plan,
-        &pieces,
+        &operations_of(alloc, &pieces)?,
         [].as_slice(),
         &settings()?,
         Detail::First,
@@ -245,12 +246,12 @@ fn copies(alloc: Global, count: usize) -> Result<Vec<Descriptor>, Fail> {
 fn at_most_65536_pieces(rt: HostRuntime) -> Result<(), Fail> {
     let (alloc, settings) = (rt.alloc(), settings()?);
     let plan = plan_of(alloc, &[])?;
-    let most = copies(alloc, MOST_PIECES)?;
+    let most = operations_of(alloc, &copies(alloc, MOST_PIECES)?)?;
     assert_eq!(rt;
         explain(alloc, &plan, &most, [].as_slice(), &settings, Detail::First).err(),
         Some(ExplainFault::Legal(LegalFault::Count))
     );
-    let more = copies(alloc, MOST_PIECES + 1)?;
+    let more = operations_of(alloc, &copies(alloc, MOST_PIECES + 1)?)?;
     assert_eq!(rt;
         explain(alloc, &plan, &more, [].as_slice(), &settings, Detail::First).err(),
         Some(ExplainFault::TooManyPieces)

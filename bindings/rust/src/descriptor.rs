@@ -84,8 +84,7 @@ impl Descriptor {
     }
 
     /// The checksum (CRC-32C) of a range, the number in bytes 16 to 19 of the record, as one checksum of what `seed` is
-    /// that of and of the range; 0 for that of the range alone. [`prepare`](crate::prepare) takes no list with
-    /// checksums.
+    /// that of and of the range; 0 for that of the range alone.
     #[must_use]
     pub fn crc(source: u64, size: u32, seed: u32, record: u64) -> Descriptor {
         Descriptor::of(0x10, source, 0, size, u64::from(seed), record)

@@ -517,6 +517,9 @@ def spans_of(word, rest):
         return [(numbers[0], sizes[0]), (numbers[1], sizes[1])], [(numbers[1], sizes[1])]
     if word == "dualcast":
         return [(numbers[0], sizes[0])], [(number, sizes[0]) for number in numbers[1:]]
+    if word in ("crc", "copy_crc"):
+        seeds = [(int(place, 16), 4) for place in re.findall(r"seed at (0x[0-9a-f]+)", rest)]
+        return [(numbers[0], sizes[0]), *seeds], [(numbers[1], sizes[0])] if word == "copy_crc" else []
     return [(number, sizes[0]) for number in numbers[: 1 if " with pattern " in rest else 2]], []
 
 

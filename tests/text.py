@@ -183,7 +183,8 @@ def lines():
 
 def grammar():
     """Where each line leaves the grammar, and what may come there."""
-    operation, number, size = "move, fill, compare, delta or dualcast", "a number below 2^64", "a number below 2^32"
+    operation = "move, fill, compare, delta, dualcast, crc or copy_crc"
+    number, size = "a number below 2^64", "a number below 2^32"
     option = "an option that does not stand before: pasid, privileged, check, flags or handle"
     more = "a comma, or the end of the line"
     for line, column, words in [
@@ -552,11 +553,15 @@ move 0x7000 -> 0x7100, 64 bytes, record 0x80c0 # b\x1b[2Jc
     common.expect(">move 1/2<" in written("explain --svg", job), "a job has names from comments")
 
 
-def mixed(chance, count):
-    """A text of all operations at few addresses, of which some share a record, with barriers, comments and buffers."""
+def mixed(chance, count, has_checksums):
+    """A text of all operations at few addresses, of which some share a record, with barriers, comments and buffers. Of
+    checksums, which may be among them, some have their seed in the record of another operation."""
     place, lines = lambda: 0x1000 + 64 * chance.randrange(40), ["# 0x1000: first", "# 5120: second"]
     for k in range(count):
         first, second, size = place(), place(), chance.choice((8, 64, 128, 2048))
+        record = 0x400000 + 32 * (chance.randrange(k + 1) if chance.random() < 0.2 else k)
+        other = 0x400000 + 32 * chance.randrange(k + 1)
+        seed = chance.choice(("", ", seed 0xe3069283", f", seed at {other + 16}" if other != record else ""))
         operation = chance.choice((
             f"move {first} -> {second}, {size} bytes",
             f"fill {first} with 0102030405060708, {size} bytes",
@@ -564,8 +569,9 @@ def mixed(chance, count):
             f"compare {first} with pattern 0102030405060708, {size} bytes, expect 1",
             f"delta {first + 0x100000}, 80 bytes -> {second}, 64 bytes",
             f"dualcast {first + 0x100000} -> {second} and {second + 0x200000}, {size} bytes",
+            *[f"crc {first}, {size} bytes{seed}"] * has_checksums,
+            *[f"copy_crc {first + 0x100000} -> {second}, {size} bytes{seed}"] * has_checksums,
         ))
-        record = 0x400000 + 32 * (chance.randrange(k + 1) if chance.random() < 0.2 else k)
         lines += ["barrier"] * (chance.random() < 0.1)
         lines.append(f"{operation}, record {record}" + f" # the {'x' * (k % 14)} {'y ' * (k % 5)}" * (k % 3 > 0))
     return "\n".join(lines)
@@ -593,7 +599,7 @@ def pictures():
         chance = random.Random(seed)
         words = ["explain", "--svg", "--staging", "0x70000000", "--lone", str(seed % 2 * 10)]
         words += ["--greatest-batch", str((2, 4, 32)[seed % 3]), "--greatest-transfer", ("64", "2M")[seed % 2]]
-        asked.append((f"seed {seed}", words, mixed(chance, 1 + seed % 40).encode(), None))
+        asked.append((f"seed {seed}", words, mixed(chance, 1 + seed % 40, seed % 2).encode(), None))
     # plans of one's own, of which the first costs more than the least
     moves = [(0x1000, 0x2000), (0x3000, 0x4000)]
     for plan, costs in [

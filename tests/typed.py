@@ -200,6 +200,20 @@ def checksums_left(text, folder):
         ran = subprocess.run(command, input=first + second, capture_output=True, text=True)
         got = (ran.returncode, ran.stdout, beside(ran))
         expect(got == (0, wanted, said), f"checksums with {statuses}: wanted {wanted!r}, {said!r}, got {got}")
+    # a checksum that is given up leaves no value in its record, nor the data that it copies
+    reads = "warning: piece 1 reads what piece 0, which is given up, was to write at 0x{:x}"
+    for earlier, later, at in (
+        (first, second, 0x8010),
+        ("crc 0x1000, 64 bytes, seed 0x0, record 0x8000\n", second, 0x8010),
+        (first, "crc 0x2020, 256 bytes, seed 0x0, record 0x8020\n", 0x2020),
+        (first, "crc 0x5000, 256 bytes, seed 0x0, record 0x8020\n", None),
+    ):
+        Path(folder, "some").write_bytes(b"\3".ljust(32, b"\0") + bytes(32))
+        command = [text, "resume", "--give-up", "0", "--records", f"{folder}/some"]
+        ran = subprocess.run(command, input=earlier + later, capture_output=True, text=True)
+        said = [line for line in ran.stderr.splitlines() if "reads what" in line]
+        right = len(said) == (at is not None) and all(reads.format(at) in line for line in said)
+        expect((ran.returncode, ran.stdout, right) == (0, later, True), f"{earlier} given up: {ran}")
     short = [text, "resume", "--greatest-transfer", "128", "--records", f"{folder}/some"]
     ran = subprocess.run(short, input=first + second, capture_output=True, text=True)
     is_refused = " [37 OverTransfer 1]\n" in ran.stderr

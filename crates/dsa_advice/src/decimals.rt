@@ -39,8 +39,11 @@ fn precedes_address(word: &[u8], is_compare: bool) -> bool {
         b"compare".as_slice(),
         b"delta".as_slice(),
         b"dualcast".as_slice(),
+        b"crc".as_slice(),
+        b"copy_crc".as_slice(),
         b"->".as_slice(),
         b"and".as_slice(),
+        b"at".as_slice(),
         b"record".as_slice(),
     ]
     .contains(&word)

@@ -25,6 +25,15 @@ fn is_compare(op: Option<Op>) -> bool {
     }
 }
 
+/// The flags from bit 16 on that an operation of this code may have: those of a checksum.
+fn high_flags_of(code: u8) -> u32 {
+    if matches!(code, 0x10 | 0x11) {
+        0x07_0000
+    } else {
+        0
+    }
+}
+
 /// Writes the first flag that is missing, or else the first that may not be set.
 fn push_flags(alloc: Global, text: &mut String, entry: &[u8; 64]) -> Result<(), AllocError> {
     let flags = u32_at(entry, 4) % (1 << 24);
@@ -39,7 +48,7 @@ fn push_flags(alloc: Global, text: &mut String, entry: &[u8; 64]) -> Result<(), 
             return text.push_str(&format!(in alloc; ": 0x{bit:04x} ({name}) is set")?);
         }
     }
-    let high = flags & 0xff_0000;
+    let high = flags & 0xff_0000 & !high_flags_of(entry[7]);
     text.push_str(&format!(in alloc; ": 0x{high:06x} (reserved) is set")?)
 }
 

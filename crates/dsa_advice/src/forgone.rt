@@ -1,6 +1,6 @@
 //! Warnings about pieces that read what another would have written that is given up.
 
-ghost use Rattle.std.specs.Prelude.{◌≡◌, ℕ, [], drop, length};
+ghost use Rattle.std.specs.Prelude.{◌≡◌, ◌⊎◌, ℕ, [], drop, length};
 ghost use Rattle.dsa_operations.specs.Operations.{reads_of, writes_of};
 
 use crate::notes::Notes;
@@ -33,15 +33,19 @@ pub(crate) fn is_given_up(given_up: &[u8], piece: usize) -> bool {
     given_up.get(piece).is_some_and(|mark| *mark != 0)
 }
 
-/// The data that a piece writes, without its record.
+/// The data that a piece writes, and the record of a checksum, which has its value.
 fn written_by(piece: &Operation) -> Touched
     ensures reads { result.reads.items ≡ [] }
-    ensures writes { result.writes.items ≡ drop 1 (writes_of piece.now) }
+    ensures writes { (result.writes.items ≡ writes_of piece.now)
+        ⊎ (result.writes.items ≡ drop 1 (writes_of piece.now)) }
 {
     let mut writes = ArrayVec::new();
-    writes
-        .try_extend_from_slice(piece.targets().as_slice())
-        .unwrap();
+    match piece {
+        Operation::Descriptor(_) => writes
+            .try_extend_from_slice(piece.targets().as_slice())
+            .unwrap(),
+        Operation::Checksum(_) => writes = piece.touched_spans().writes,
+    }
     Touched {
         reads: ArrayVec::new(),
         writes,

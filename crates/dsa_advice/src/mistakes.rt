@@ -5,8 +5,9 @@ ghost use Rattle.dsa_calls.specs.Fault.{list_cause};
 ghost use Rattle.dsa_advice.specs.Refusals.{NamesCause, NamesGrammar};
 
 use crate::messages::{grammar_message, line_message};
-use dsa_descriptor::{Descriptor, ListFault, u32_at};
+use dsa_descriptor::{ListFault, u32_at};
 use dsa_lines::{Expected, operation_bytes};
+use dsa_operations::Operation;
 use dsa_sentences::TextCause;
 use std::alloc::{AllocError, Global};
 
@@ -52,7 +53,7 @@ impl Sofar {
         let (index, owner) = (self.operations, u32_at(entry, 0));
         self.operations = index.saturating_add(1);
         let first = *self.owner.get_or_insert(owner);
-        match Descriptor::read(entry) {
+        match Operation::read(entry) {
             Err(fault) => Some(ListFault::Field(index, fault)),
             Ok(_) if owner != first && !self.has_left => Some(ListFault::MixedPasid(index)),
             Ok(_) => None,

@@ -67,17 +67,22 @@ fn refused(cause: Cause, first: u64, second: u64) -> Refusal {
     }
 }
 
+// The portal and the staging area of a list that is planned for a staging area at 0x40000.
+fn planned(list: &[u8]) -> (Vec<u8>, Vec<u8>) {
+    let settings = Settings {
+        staging: 0x40000,
+        ..SETTINGS
+    };
+    let answer = plan_list(&settings, list).unwrap();
+    (answer.portal, answer.staging)
+}
+
 #[test]
 fn what_is_filled_is_planned() {
     let prepared = prepared();
     assert_eq!((prepared.portal_len(), prepared.staging_len()), (64, 160));
     for bases in [[0x5001, 0x9003, 0x20], [1 << 60, 0, 0x20_0000]] {
-        let settings = Settings {
-            staging: 0x40000,
-            ..SETTINGS
-        };
-        let planned = plan_list(&settings, &moves(bases)).unwrap();
-        let wanted = (planned.portal, planned.staging);
+        let wanted = planned(&moves(bases));
         assert_eq!(filled(&prepared, &bases, 0x40000), Ok(wanted));
     }
 }
@@ -94,12 +99,7 @@ fn a_seed_goes_with_its_region() {
     let list = checksums([0x1000, 0x2000, 0x8000]);
     let prepared = prepare(&SETTINGS, &list, &REGIONS).unwrap();
     let bases = [0x5001, 0x9003, 0x20];
-    let settings = Settings {
-        staging: 0x40000,
-        ..SETTINGS
-    };
-    let planned = plan_list(&settings, &checksums(bases)).unwrap();
-    let wanted = (planned.portal, planned.staging);
+    let wanted = planned(&checksums(bases));
     assert_eq!(filled(&prepared, &bases, 0x40000), Ok(wanted));
     let outside = Descriptor::crc(0x1000, 64, 0, 0x8000).seeded_from(0x17fd);
     let refusal = prepare(&SETTINGS, &list_of(&[outside]), &REGIONS).unwrap_err();

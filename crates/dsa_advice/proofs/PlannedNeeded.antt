@@ -3,9 +3,9 @@ use Rattle.std.proofs.Common.{◌≡◌, ℕ, inl, inr, length, Some}
 use Rattle.std.specs.Prelude.{map, slice_get}
 use Rattle.dsa_descriptor.specs.Descriptors.{fields}
 use Rattle.dsa_ranges.specs.Ranges.{ConflictAt}
-use Rattle.dsa_plan.specs.Plan.{Group, start_of}
-use Rattle.dsa_plan.specs.Legal.{IsFenced}
-use Rattle.dsa_plan.specs.Settings.{Limits}
+use Rattle.dsa_settings.specs.Plan.{Group, start_of}
+use Rattle.dsa_settings.specs.Legal.{IsFenced}
+use Rattle.dsa_settings.specs.Settings.{Limits}
 use Rattle.dsa_calls.specs.Planned.{Submission, IsSubmissionOf}
 use Rattle.dsa_reasons.specs.Reasons.{NeedsFence}
 use Rattle.dsa_explain.proofs.Needed.{chain_needed}

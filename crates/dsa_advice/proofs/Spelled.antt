@@ -4,8 +4,8 @@ use Rattle.std.specs.Prelude.{option_map}
 use Rattle.std.specs.Borrow.{Bor}
 use Rattle.std.proofs.lemmas.Option.{same_Some}
 use Rattle.dsa_lines.specs.Numbers.{number_of}
-use Rattle.dsa_plan.specs.Settings.{AreInLimits, BatchPrices, Limits, limits, version_with}
-use Rattle.dsa_plan.specs.Settings.BatchPrices.{BySize, SamePrice}
+use Rattle.dsa_settings.specs.Settings.{AreInLimits, BatchPrices, Limits, limits, version_with}
+use Rattle.dsa_settings.specs.Settings.BatchPrices.{BySize, SamePrice}
 use Rattle.dsa_advice.specs.declared.settings.SettingsWords.{SettingsWords}
 use Rattle.dsa_advice.specs.declared.settings.SettingsNumbers.{SettingsNumbers}
 use Rattle.dsa_advice.specs.Numbers.{numbers_of}

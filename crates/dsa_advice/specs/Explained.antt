@@ -12,9 +12,9 @@ use Rattle.dsa_operations.specs.declared.operation.Operation.TheVariants as oper
 use Rattle.dsa_operations.specs.Faults.{OperationKeeps}
 use Rattle.dsa_operations.specs.OperationFields.{operation_fields}
 use Rattle.dsa_operations.specs.Operations.{spelling_of}
-use Rattle.dsa_plan.specs.Plan.{Plan}
-use Rattle.dsa_plan.specs.Settings.{Limits}
-use Rattle.dsa_plan.specs.EmissionFaults.{IsEmission}
+use Rattle.dsa_settings.specs.Plan.{Plan}
+use Rattle.dsa_settings.specs.Settings.{Limits}
+use Rattle.dsa_emission.specs.EmissionFaults.{IsEmission}
 use Rattle.dsa_plan.specs.Certificate.{Contents}
 use Rattle.dsa_lines.specs.declared.fault.TextFault.{TextFault}
 use Rattle.dsa_lines.specs.Barriers.{barriers_of}

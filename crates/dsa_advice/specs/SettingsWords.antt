@@ -1,12 +1,11 @@
 -- The settings that arguments spell (this project's choice): those of a job with the same members.
 use Rattle.std.specs.Prelude.{◌≡◌, ℕ, List, Option, Some, None, option_map}
-use Rattle.dsa_plan.specs.Settings.{BatchPrices, Limits, version_with}
-use Rattle.dsa_plan.specs.Settings.BatchPrices.{BySize, SamePrice}
-use Rattle.dsa_lines.specs.Numbers.{number_of}
+use Rattle.dsa_settings.specs.Settings.{BatchPrices, Limits, version_with}
+use Rattle.dsa_settings.specs.Settings.BatchPrices.{BySize, SamePrice}
+use Rattle.dsa_lines.specs.Numbers.{number_of, size_of}
 use Rattle.dsa_report.specs.Settings.{SettingsText, AreSettings, limits_of}
 use Rattle.dsa_advice.specs.declared.settings.SettingsWords.{SettingsWords}
 use Rattle.dsa_advice.specs.declared.settings.SettingsNumbers.{SettingsNumbers}
-use Rattle.dsa_lines.specs.Numbers.{size_of}
 use Rattle.dsa_advice.specs.Numbers.{numbers_of}
 
 -- one price for all batches; or prices by size, if there are words for them

@@ -4,7 +4,7 @@ ghost use Rattle.std.specs.Prelude.{◌≡◌, ◌⊎◌, ◌≤◌, [], IfOk, L
 ghost use Rattle.dsa_descriptor.specs.Descriptors.{fields};
 ghost use Rattle.dsa_descriptor.specs.Fences.{barriers_of, unfenced_list};
 ghost use Rattle.dsa_descriptor.specs.Pieces.{most_pieces};
-ghost use Rattle.dsa_plan.specs.EmissionFaults.{IsEmission};
+ghost use Rattle.dsa_emission.specs.EmissionFaults.{IsEmission};
 ghost use Rattle.dsa_plan.specs.Certificate.{contents};
 ghost use Rattle.dsa_calls.specs.declared.fault.PlanFault.{PlanFault};
 ghost use Rattle.dsa_calls.specs.declared.fault.PlanFault.TheVariants.{Memory};

@@ -5,7 +5,7 @@ use Rattle.std.proofs.lemmas.List.{length-map, map-append}
 use Rattle.std.proofs.lemmas.List.Sums.{fold-append, sum_by-cons}
 use Rattle.std.proofs.lemmas.List.Concat.{flat_map-append}
 use Rattle.std.proofs.lemmas.List.Elements.{recursion_from_All}
-use Rattle.dsa_plan.specs.Plan.{Group, Plan, piece_count}
+use Rattle.dsa_settings.specs.Plan.{Group, Plan, piece_count}
 use Rattle.dsa_c.specs.Marks.{mark, group_marks, marks_of, State, next, closed, plan_of}
 use Rattle.dsa_c.specs.Laws.{MarksSpellPlans, AreMarks, PlansSpellMarks}
 

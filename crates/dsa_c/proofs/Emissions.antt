@@ -5,8 +5,8 @@ use Rattle.dsa_emission.specs.declared.emission_fault.EmissionFault.TheVariants.
 use Rattle.dsa_calls.specs.declared.fault.PlanFault.{PlanFault}
 use Rattle.dsa_calls.specs.declared.fault.PlanFault.TheVariants.{Emission as InEmission, Memory as NoMemory}
 use Rattle.dsa_calls.specs.Fault.{emission_cause}
-use Rattle.dsa_plan.specs.EmissionFaults.{IsFirstEmissionFaultAs}
-use Rattle.dsa_plan.specs.Settings.{Limits}
+use Rattle.dsa_emission.specs.EmissionFaults.{IsFirstEmissionFaultAs}
+use Rattle.dsa_settings.specs.Settings.{Limits}
 use Rattle.dsa_operations.specs.Operations.{operation_kind}
 use Rattle.dsa_c.specs.declared.settings.RawSettings.{RawSettings}
 use Rattle.dsa_c.specs.declared.refusal.RawRefusal.{RawRefusal}

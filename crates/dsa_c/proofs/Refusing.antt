@@ -1,8 +1,8 @@
 -- Why calls refuse, and what planning answers.
 use Rattle.std.proofs.Common.{List, Result, ℕ, ◌≡◌, ◌⊎◌, ◌<◌, Ok, Err, inl, inr, length, refl, sym, ap, subst, ◌∙◌, arith}
-use Rattle.dsa_plan.specs.Settings.{Limits}
+use Rattle.dsa_settings.specs.Settings.{Limits}
 use Rattle.dsa_plan.specs.Certificate.{Contents}
-use Rattle.dsa_plan.specs.Plan.{piece_count}
+use Rattle.dsa_settings.specs.Plan.{piece_count}
 use Rattle.dsa_calls.specs.declared.fault.PlanFault.{PlanFault}
 use Rattle.dsa_calls.specs.declared.fault.PlanFault.TheVariants.{Memory}
 use Rattle.dsa_calls.specs.declared.checking.FencedFault.{FencedFault}

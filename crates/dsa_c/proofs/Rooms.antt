@@ -13,18 +13,17 @@ use Rattle.dsa_descriptor.specs.Places.{u32_at}
 use Rattle.dsa_descriptor.proofs.Rules.{spelling_stands}
 use Rattle.dsa_descriptor.proofs.Listed.{chunks_spelt, length-list_spelling}
 use Rattle.dsa_image.specs.Lines.{quotient_up}
-use Rattle.dsa_plan.specs.Plan.{Plan, Group, piece_count}
-use Rattle.dsa_plan.specs.Settings.{Limits}
-use Rattle.dsa_plan.specs.Legal.{IsLegal}
-use Rattle.dsa_plan.specs.Emission.{is_batch, batched, batch_count, batched_count, CanBeEmitted, portal_bytes, staging_bytes}
-use Rattle.dsa_descriptor.specs.Fences.{unfenced}
-use Rattle.dsa_plan.specs.EmissionLaws.{StandsAtPlaces}
+use Rattle.dsa_settings.specs.Plan.{Plan, Group, piece_count}
+use Rattle.dsa_settings.specs.Settings.{Limits}
+use Rattle.dsa_settings.specs.Legal.{IsLegal}
+use Rattle.dsa_emission.specs.Emission.{is_batch, batched, batch_count, batched_count, CanBeEmitted, portal_bytes, staging_bytes}
+use Rattle.dsa_descriptor.specs.Fences.{unfenced, barriers_of, unfenced_list}
+use Rattle.dsa_emission.specs.EmissionLaws.{StandsAtPlaces}
 use Rattle.dsa_emission.proofs.AtPlaces.{emission_at_places}
 use Rattle.dsa_emission.proofs.Places.{batch_yes, groups_within}
 use Rattle.dsa_splitter.specs.Pieces.{all_pieces}
 use Rattle.dsa_splitter.specs.Rules.{piece_total, IsSplit}
 use Rattle.dsa_splitter.proofs.Walks.{length_all}
-use Rattle.dsa_descriptor.specs.Fences.{barriers_of, unfenced_list}
 use Rattle.dsa_calls.specs.Fenced.{PiecesConflict, PlansFenced}
 use Rattle.dsa_calls.specs.Lists.{IsListOf}
 use Rattle.dsa_calls.specs.Planned.{Submission, CanBePlanned}

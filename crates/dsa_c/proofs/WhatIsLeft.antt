@@ -1,6 +1,6 @@
 -- What resuming a list of C answers, from its parts.
 use Rattle.std.proofs.Common.{◌≡◌, inr, ℕ, ◌<◌, List, length, Ok, ap, subst, ◌∙◌}
-use Rattle.dsa_plan.specs.Settings.{Limits}
+use Rattle.dsa_settings.specs.Settings.{Limits}
 use Rattle.dsa_resume.specs.declared.left.LeftOrder.{LeftOrder}
 use Rattle.dsa_resume.specs.Rest.{Remainder}
 use Rattle.dsa_operations.specs.declared.operation.Operation.{Operation}

@@ -3,8 +3,8 @@ use Rattle.std.proofs.Common.{◌≡◌, inl, inr, ℕ, ◌<◌, ◌≤◌, Bool
 use Rattle.std.proofs.lemmas.List.{length-map}
 use Rattle.dsa_descriptor.specs.Descriptors.{fields}
 use Rattle.dsa_descriptor.specs.Pieces.{most_pieces}
-use Rattle.dsa_plan.specs.Plan.{Plan, piece_count}
-use Rattle.dsa_plan.specs.Settings.{Limits}
+use Rattle.dsa_settings.specs.Plan.{Plan, piece_count}
+use Rattle.dsa_settings.specs.Settings.{Limits}
 use Rattle.dsa_splitter.proofs.Walks.{length_all}
 use Rattle.dsa_lists.specs.AnyLists.{AreAnyPieces, IsAnyPlan}
 use Rattle.dsa_operations.specs.declared.operation.Operation.{Operation}

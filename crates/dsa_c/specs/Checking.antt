@@ -1,9 +1,9 @@
 -- What checking with a certificate from C promises.
 use Rattle.std.specs.Prelude.{ℕ, List, length, Ok, Err}
-use Rattle.dsa_plan.specs.Plan.{Plan}
-use Rattle.dsa_plan.specs.Settings.{tariff_of}
-use Rattle.dsa_plan.specs.Legal.{IsLeast}
-use Rattle.dsa_plan.specs.EmissionFaults.{IsEmissionAs}
+use Rattle.dsa_settings.specs.Plan.{Plan}
+use Rattle.dsa_settings.specs.Settings.{tariff_of}
+use Rattle.dsa_settings.specs.Legal.{IsLeast}
+use Rattle.dsa_emission.specs.EmissionFaults.{IsEmissionAs}
 use Rattle.dsa_plan.specs.Certificate.{Contents}
 use Rattle.dsa_calls.specs.declared.checking.FencedFault.{FencedFault}
 use Rattle.dsa_calls.specs.declared.checking.FencedFault.TheVariants.{Call, OtherPiece}

@@ -1,11 +1,11 @@
 -- Marks and plans spell each other; and what calls answer of lists without fences or checksums.
 use Rattle.std.specs.Prelude.{◌≡◌, ℕ, ◌<◌, true, List, [], ◌∷◌, All, length, map, Ok}
-use Rattle.dsa_plan.specs.Plan.{Plan, piece_count}
+use Rattle.dsa_settings.specs.Plan.{Plan, piece_count}
 use Rattle.dsa_descriptor.specs.declared.descriptor.Descriptor.{Descriptor}
 use Rattle.dsa_descriptor.specs.Descriptors.{fields}
 use Rattle.dsa_descriptor.specs.Fences.{marked_spelling}
 use Rattle.dsa_plan.specs.Certificate.{Contents}
-use Rattle.dsa_plan.specs.EmissionFaults.{IsEmission}
+use Rattle.dsa_emission.specs.EmissionFaults.{IsEmission}
 use Rattle.dsa_calls.specs.Checked.{Checks}
 use Rattle.dsa_calls.specs.Fenced.{HasNoFences}
 use Rattle.dsa_calls.specs.Judge.{Judges}

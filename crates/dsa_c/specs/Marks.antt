@@ -2,7 +2,7 @@
 -- project's choice).
 use Rattle.std.specs.Prelude.{ℕ, ◌+◌, ◌/◌, ◌%◌, ◌==◌, ◌++◌, ◌&&◌, not, Bool, true, false, List, [], ◌∷◌, map, flat_map, if◌then◌else◌}
 use Rattle.std.specs.List.{fold}
-use Rattle.dsa_plan.specs.Plan.{Group, Plan}
+use Rattle.dsa_settings.specs.Plan.{Group, Plan}
 
 -- 1 for a piece that begins a group, and 2 more for one that is fenced
 abbrev pub mark : Bool → Bool → ℕ

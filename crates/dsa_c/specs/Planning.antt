@@ -4,7 +4,7 @@ use Rattle.dsa_c.specs.Marks.{marks_of}
 use Rattle.dsa_lists.specs.AnyLists.{ChecksAnyList, IsAnyPlan, IsLeastOfAnyList, PlansAnyList}
 use Rattle.dsa_lists.specs.Submissions.{OperationSubmission}
 use Rattle.dsa_operations.specs.declared.operation.Operation.{Operation}
-use Rattle.dsa_plan.specs.Plan.{Plan}
+use Rattle.dsa_settings.specs.Plan.{Plan}
 use Rattle.dsa_c.specs.declared.settings.RawSettings.{RawSettings}
 use Rattle.dsa_c.specs.declared.refusal.RawRefusal.{RawRefusal}
 use Rattle.dsa_c.specs.declared.planning.RawPlanned.{RawPlanned}

@@ -3,8 +3,8 @@ use Rattle.std.specs.Prelude.{◌≡◌, ◌⊎◌, if◌then◌else◌, ◌==�
 use Rattle.dsa_settings.specs.declared.setting.Setting.{Setting}
 use Rattle.dsa_settings.specs.declared.setting.Setting.TheVariants.{GreatestBatch, GreatestTransfer, Lone, Fence, Staging, Batch}
 use Rattle.dsa_settings.specs.Outside.{IsFirstOutside}
-use Rattle.dsa_plan.specs.Settings.{BatchPrices, Limits, AreInLimits, limits}
-use Rattle.dsa_plan.specs.Settings.BatchPrices.{SamePrice, BySize}
+use Rattle.dsa_settings.specs.Settings.{BatchPrices, Limits, AreInLimits, limits}
+use Rattle.dsa_settings.specs.Settings.BatchPrices.{SamePrice, BySize}
 use Rattle.dsa_descriptor.specs.Causes.{index_list}
 use Rattle.dsa_calls.specs.declared.fault.PlanFault.{PlanFault}
 use Rattle.dsa_calls.specs.declared.fault.PlanFault.TheVariants.{Memory}

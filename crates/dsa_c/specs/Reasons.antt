@@ -4,7 +4,7 @@ use Rattle.dsa_operations.specs.declared.operation.Operation.{Operation}
 use Rattle.dsa_ranges.specs.declared.hazards.HazardKind.{HazardKind}
 use Rattle.dsa_ranges.specs.declared.hazards.HazardKind.TheVariants.{ReadAfterWrite, WriteAfterRead, WriteAfterWrite}
 use Rattle.dsa_operations.specs.Operations.{reads_of, writes_of}
-use Rattle.dsa_plan.specs.Plan.{Plan}
+use Rattle.dsa_settings.specs.Plan.{Plan}
 use Rattle.dsa_reasons.specs.declared.fences.Fence.{Fence}
 use Rattle.dsa_reasons.specs.declared.sentences.NamedConflict.{NamedConflict}
 use Rattle.dsa_reasons.specs.OneGroup.{AreCutReasons}

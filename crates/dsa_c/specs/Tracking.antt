@@ -5,8 +5,8 @@ use Rattle.dsa_descriptor.specs.declared.span.Span.{Span}
 use Rattle.dsa_descriptor.specs.Causes.{index_list}
 use Rattle.dsa_flight.specs.Spans.{staged_writes}
 use Rattle.dsa_ranges.specs.Pieces as kinds
-use Rattle.dsa_plan.specs.EmissionFaults.{IsEmissionAs, IsFirstEmissionFaultAs}
-use Rattle.dsa_plan.specs.Plan.{Plan}
+use Rattle.dsa_emission.specs.EmissionFaults.{IsEmissionAs, IsFirstEmissionFaultAs}
+use Rattle.dsa_settings.specs.Plan.{Plan}
 use Rattle.dsa_emission.specs.declared.emission_fault.EmissionFault.{EmissionFault}
 use Rattle.dsa_emission.specs.declared.emission_fault.EmissionFault.TheVariants.{Memory as EmissionMemory}
 use Rattle.dsa_calls.specs.declared.fault.PlanFault.TheVariants.{Emission as InEmission, Memory}

@@ -2,7 +2,7 @@
 use Rattle.std.specs.Prelude.{◌≡◌, ℕ, ◌==◌, Bool, List, [], map, Option, Some, None, if◌then◌else◌}
 use Rattle.dsa_operations.specs.declared.operation.Operation.{Operation}
 use Rattle.dsa_operations.specs.Operations.{writes_of}
-use Rattle.dsa_plan.specs.Plan.{Plan}
+use Rattle.dsa_settings.specs.Plan.{Plan}
 use Rattle.dsa_warnings.specs.declared.concerns.Concern.{Concern}
 use Rattle.dsa_warnings.specs.declared.concerns.Concern.TheVariants.{Overlap, SharedRecord, Unchecked, Unguarded}
 use Rattle.dsa_warnings.specs.declared.warnings.Warning.{Warning}

@@ -2,7 +2,7 @@
 
 ghost use Rattle.std.specs.Prelude.{◌≡◌, ◌≢◌, ◌<◌, ◌≤◌, IfOk, length, MatchResult};
 ghost use Rattle.dsa_descriptor.specs.Pieces.{most_pieces};
-ghost use Rattle.dsa_plan.specs.Plan.{piece_count};
+ghost use Rattle.dsa_settings.specs.Plan.{piece_count};
 ghost use Rattle.dsa_c.specs.Explaining.{IsExplainedInto, RefusesExplain};
 ghost use Rattle.dsa_c.specs.Planning.{AreOfPlan};
 ghost use Rattle.dsa_c.specs.Reasons.{AreReasonsOf};

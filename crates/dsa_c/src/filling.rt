@@ -3,7 +3,7 @@
 ghost use Rattle.std.specs.Prelude.{◌≡◌, ◌≢◌, ℕ, ◌<◌, List, length};
 ghost use Rattle.dsa_descriptor.specs.declared.descriptor.Descriptor.{Descriptor};
 ghost use Rattle.dsa_operations.specs.declared.operation.Operation.{Operation};
-ghost use Rattle.dsa_plan.specs.Settings.{Limits};
+ghost use Rattle.dsa_settings.specs.Settings.{Limits};
 ghost use Rattle.dsa_prepared.specs.Filling.{IsAnyPlannedInto, IsPlannedInto};
 ghost use Rattle.dsa_prepared.specs.Preparing.{IsAnyPreparedOf, IsPreparedOf};
 ghost use Rattle.dsa_prepared.specs.Rows.{template_in};

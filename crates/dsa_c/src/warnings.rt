@@ -2,7 +2,7 @@
 
 ghost use Rattle.std.specs.Prelude.{◌≡◌, ◌≢◌, ◌<◌, ◌≤◌, IfOk, length, map, MatchResult, take};
 ghost use Rattle.dsa_descriptor.specs.Pieces.{most_pieces};
-ghost use Rattle.dsa_plan.specs.Plan.{piece_count};
+ghost use Rattle.dsa_settings.specs.Plan.{piece_count};
 ghost use Rattle.dsa_c.specs.Planning.{AreOfPlan};
 ghost use Rattle.dsa_c.specs.Raw.{written};
 ghost use Rattle.dsa_c.specs.Warnings.{AreRawWarningsOf, AreWarningsInto, RefusesWarn, concern_in, raw_warning_of, warning_words_of};

@@ -10,11 +10,11 @@ use Rattle.dsa_emission.proofs.OfDescriptors.{emission_as}
 use Rattle.dsa_emission.proofs.OneFault.{one_fault, none_to_tell}
 use Rattle.dsa_emission.proofs.Told.{one_emission_by}
 use Rattle.dsa_ranges.specs.Pieces.{DescriptorConflictAt, Kind, descriptors}
-use Rattle.dsa_plan.specs.Settings.{Limits, tariff_of}
-use Rattle.dsa_plan.specs.Plan.{Plan}
-use Rattle.dsa_plan.specs.Legal.{IsLeast}
+use Rattle.dsa_settings.specs.Settings.{Limits, tariff_of}
+use Rattle.dsa_settings.specs.Plan.{Plan}
+use Rattle.dsa_settings.specs.Legal.{IsLeast}
 use Rattle.dsa_plan.specs.Certificate.{Contents}
-use Rattle.dsa_plan.specs.EmissionFaults.{IsEmission, IsEmissionAs, IsFirstEmissionFaultAs}
+use Rattle.dsa_emission.specs.EmissionFaults.{IsEmission, IsEmissionAs, IsFirstEmissionFaultAs}
 use Rattle.dsa_plan.proofs.Steps.{yes_means_least}
 use Rattle.dsa_calls.specs.declared.fault.PlanFault.{PlanFault}
 use Rattle.dsa_calls.specs.declared.fault.PlanFault.TheVariants.{Emission, Memory}

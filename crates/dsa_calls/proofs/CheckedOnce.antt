@@ -5,12 +5,11 @@ use Rattle.dsa_descriptor.specs.declared.descriptor.Descriptor.{Descriptor}
 use Rattle.dsa_descriptor.specs.Fields.{Fields}
 use Rattle.dsa_descriptor.specs.Descriptors.{fields}
 use Rattle.dsa_ranges.specs.Ranges.{ConflictAt}
-use Rattle.dsa_plan.specs.Barriers.{WithBarriers}
-use Rattle.dsa_plan.specs.Settings.{Limits, tariff_of, version_of}
-use Rattle.dsa_plan.specs.Plan.{Plan, plan_cost}
-use Rattle.dsa_plan.specs.Legal.{IsLegal}
-use Rattle.dsa_plan.specs.Certificate.{IsGood}
-use Rattle.dsa_plan.specs.Certificate.{Contents}
+use Rattle.dsa_settings.specs.Barriers.{WithBarriers}
+use Rattle.dsa_settings.specs.Settings.{Limits, tariff_of, version_of}
+use Rattle.dsa_settings.specs.Plan.{Plan, plan_cost}
+use Rattle.dsa_settings.specs.Legal.{IsLegal}
+use Rattle.dsa_plan.specs.Certificate.{IsGood, Contents}
 use Rattle.dsa_checker.specs.declared.fault.CheckFault.{CheckFault}
 use Rattle.dsa_checker.specs.Checked.{IsFirstCheckFault}
 use Rattle.dsa_checker.proofs.Answered.{yes_has_no_fault, one_check_fault}

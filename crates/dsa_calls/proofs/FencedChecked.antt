@@ -9,11 +9,11 @@ use Rattle.dsa_descriptor.proofs.Listed.{are_entries}
 use Rattle.dsa_emission.proofs.OfDescriptors.{as_emission, emission_as}
 use Rattle.dsa_ranges.specs.Pieces.{descriptors}
 use Rattle.dsa_ranges.specs.Ranges.{ConflictAt}
-use Rattle.dsa_plan.specs.Barriers.{WithBarriers}
-use Rattle.dsa_plan.specs.Settings.{Limits}
-use Rattle.dsa_plan.specs.Legal.{IsLegal}
+use Rattle.dsa_settings.specs.Barriers.{WithBarriers}
+use Rattle.dsa_settings.specs.Settings.{Limits}
+use Rattle.dsa_settings.specs.Legal.{IsLegal}
 use Rattle.dsa_plan.specs.Certificate.{Contents}
-use Rattle.dsa_plan.specs.EmissionFaults.{IsEmission}
+use Rattle.dsa_emission.specs.EmissionFaults.{IsEmission}
 use Rattle.dsa_splitter.specs.Pieces.{all_pieces}
 use Rattle.dsa_splitter.specs.Rules.{IsSplit}
 use Rattle.dsa_splitter.proofs.OneFault.{split_no_fault}

@@ -7,8 +7,8 @@ use Rattle.dsa_descriptor.specs.Fields.{Fields}
 use Rattle.dsa_descriptor.specs.Descriptors.{fields}
 use Rattle.dsa_descriptor.specs.Lists.{IsFirstListFault}
 use Rattle.dsa_ranges.specs.Ranges.{ConflictAt}
-use Rattle.dsa_plan.specs.Barriers.{WithBarriers}
-use Rattle.dsa_plan.specs.Settings.{Limits, tariff_of}
+use Rattle.dsa_settings.specs.Barriers.{WithBarriers}
+use Rattle.dsa_settings.specs.Settings.{Limits, tariff_of}
 use Rattle.dsa_plan.specs.Certificate.{IsGood}
 use Rattle.dsa_splitter.specs.declared.fault.SplitFault.{SplitFault}
 use Rattle.dsa_splitter.specs.Rules.{IsFirstSplitFault}

@@ -1,17 +1,16 @@
 -- A trace has one end, and a run of a list that succeeds leaves what executing the list leaves.
 use Rattle.std.proofs.Common.{◌≡◌, ◌⊎◌, inl, inr, ℕ, suc, ◌≤◌, Bool, false, List, [], ◌∷◌, length, map, take, Some, Result, Ok, Err, refl, sym, ap, subst, ◌∙◌, arith}
 use Rattle.std.specs.Prelude.{All, IfOk}
-use Rattle.std.proofs.lemmas.List.{length-map}
-use Rattle.std.proofs.lemmas.List.{take_all}
+use Rattle.std.proofs.lemmas.List.{length-map, take_all}
 use Rattle.std.proofs.lemmas.Option.{slice_get-get_or}
 use Rattle.dsa_descriptor.specs.declared.descriptor.Descriptor.{Descriptor}
 use Rattle.dsa_descriptor.specs.Fields.{Fields}
 use Rattle.dsa_descriptor.specs.Descriptors.{fields}
 use Rattle.dsa_image.specs.Memory.{Memory}
 use Rattle.dsa_image.specs.Effects.{done, fold_done, statuses}
-use Rattle.dsa_plan.specs.Plan.{Plan}
-use Rattle.dsa_plan.specs.Settings.{Limits, AreInLimits}
-use Rattle.dsa_plan.specs.Legal.{IsLegal}
+use Rattle.dsa_settings.specs.Plan.{Plan}
+use Rattle.dsa_settings.specs.Settings.{Limits, AreInLimits}
+use Rattle.dsa_settings.specs.Legal.{IsLegal}
 use Rattle.dsa_splitter.specs.Pieces.{all_whole, whole_statuses}
 use Rattle.dsa_splitter.proofs.PiecesWhole.{all_pieces_whole, all_pieces_statuses}
 use Rattle.dsa_splitter.proofs.Wholes.{list_can_split}

@@ -6,11 +6,11 @@ use Rattle.dsa_emission.specs.declared.emission_fault.EmissionFault.{EmissionFau
 use Rattle.dsa_emission.specs.Causes.{emission_is_memory}
 use Rattle.dsa_emission.proofs.OneFault.{one_fault}
 use Rattle.dsa_ranges.specs.Pieces.{Kind}
-use Rattle.dsa_plan.specs.Settings.{Limits, tariff_of, version_of}
-use Rattle.dsa_plan.specs.Plan.{Plan, plan_cost}
-use Rattle.dsa_plan.specs.Legal.{IsLeast}
+use Rattle.dsa_settings.specs.Settings.{Limits, tariff_of, version_of}
+use Rattle.dsa_settings.specs.Plan.{Plan, plan_cost}
+use Rattle.dsa_settings.specs.Legal.{IsLeast}
 use Rattle.dsa_plan.specs.Certificate.{Contents, IsGood}
-use Rattle.dsa_plan.specs.EmissionFaults.{IsEmissionAs, IsFirstEmissionFaultAs}
+use Rattle.dsa_emission.specs.EmissionFaults.{IsEmissionAs, IsFirstEmissionFaultAs}
 use Rattle.dsa_plan.proofs.Steps.{yes_means_least}
 use Rattle.dsa_search.specs.Chosen.{IsChosen}
 use Rattle.dsa_search.proofs.Choosing.{chosen_is_good, chosen_is_least}

@@ -5,10 +5,10 @@ use Rattle.dsa_descriptor.specs.Fields.{Fields}
 use Rattle.dsa_descriptor.specs.Descriptors.{fields}
 use Rattle.dsa_image.specs.Memory.{Memory}
 use Rattle.dsa_image.proofs.Holdings.{first_is_one, none_outside}
-use Rattle.dsa_plan.specs.Plan.{Plan, plan_cost}
-use Rattle.dsa_plan.specs.Settings.{Limits, AreInLimits, tariff_of, version_of}
-use Rattle.dsa_plan.specs.Legal.{IsLegal}
-use Rattle.dsa_plan.specs.Emission.{portal_bytes, staging_bytes}
+use Rattle.dsa_settings.specs.Plan.{Plan, plan_cost}
+use Rattle.dsa_settings.specs.Settings.{Limits, AreInLimits, tariff_of, version_of}
+use Rattle.dsa_settings.specs.Legal.{IsLegal}
+use Rattle.dsa_emission.specs.Emission.{portal_bytes, staging_bytes}
 use Rattle.dsa_splitter.specs.Pieces.{all_pieces}
 use Rattle.dsa_splitter.specs.Rules.{IsSplit}
 use Rattle.dsa_splitter.proofs.OneFault.{split_no_fault}

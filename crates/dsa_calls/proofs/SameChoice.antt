@@ -1,8 +1,8 @@
 -- What is chosen goes by conflicts alone: relations that hold of the same pieces have one choice.
 use Rattle.std.proofs.Common.{ℕ, ◌+◌, Option, Some, None, List, length}
 use Rattle.std.specs.Prelude.{slice_index, min}
-use Rattle.dsa_plan.specs.Plan.{Tariff, Group, Plan, start_of}
-use Rattle.dsa_plan.specs.Legal.{ConflictsWithin, IsLegalGroup, IsLegal, IsLeastCost, IsLeastGroupCost}
+use Rattle.dsa_settings.specs.Plan.{Tariff, Group, Plan, start_of}
+use Rattle.dsa_settings.specs.Legal.{ConflictsWithin, IsLegalGroup, IsLegal, IsLeastCost, IsLeastGroupCost}
 use Rattle.dsa_plan.specs.Chain.{Pairs, IsPairOf}
 use Rattle.dsa_search.specs.Chosen.{MakesCost, IsChosen}
 

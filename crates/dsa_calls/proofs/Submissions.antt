@@ -8,13 +8,13 @@ use Rattle.dsa_descriptor.specs.Lists.{HaveOneOwner, list_spelling}
 use Rattle.dsa_descriptor.proofs.Listed.{one_list_spelling}
 use Rattle.dsa_ranges.specs.Ranges.{ConflictAt}
 use Rattle.dsa_emission.proofs.OfDescriptors.{emission_as}
-use Rattle.dsa_plan.specs.EmissionFaults.{IsEmission}
-use Rattle.dsa_plan.specs.Settings.{Limits, tariff_of}
-use Rattle.dsa_plan.specs.Plan.{Plan, plan_cost}
-use Rattle.dsa_plan.specs.Legal.{IsLegal, IsLeast}
-use Rattle.dsa_plan.specs.LegalFaults.{HasGroupShapes}
+use Rattle.dsa_emission.specs.EmissionFaults.{IsEmission}
+use Rattle.dsa_settings.specs.Settings.{Limits, tariff_of}
+use Rattle.dsa_settings.specs.Plan.{Plan, plan_cost}
+use Rattle.dsa_settings.specs.Legal.{IsLegal, IsLeast}
+use Rattle.dsa_settings.specs.LegalFaults.{HasGroupShapes}
 use Rattle.dsa_plan.specs.Certificate.{IsGood}
-use Rattle.dsa_plan.specs.Emission.{portal_bytes, staging_bytes, CanBeEmitted}
+use Rattle.dsa_emission.specs.Emission.{portal_bytes, staging_bytes, CanBeEmitted}
 use Rattle.dsa_splitter.specs.declared.fault.SplitFault.{SplitFault}
 use Rattle.dsa_splitter.specs.Causes.{split_is_memory}
 use Rattle.dsa_splitter.specs.Pieces.{all_pieces}

@@ -8,9 +8,9 @@ use Rattle.dsa_descriptor.proofs.Seen.{cond_false, list_any-of}
 use Rattle.dsa_descriptor.specs.Fields.{Fields}
 use Rattle.dsa_descriptor.specs.Descriptors.{fields}
 use Rattle.dsa_ranges.specs.Ranges.{ConflictAt}
-use Rattle.dsa_plan.specs.Barriers.{IsBarrier, WithBarriers}
-use Rattle.dsa_plan.specs.Plan.{Plan}
-use Rattle.dsa_plan.specs.Settings.{Limits}
+use Rattle.dsa_settings.specs.Barriers.{IsBarrier, WithBarriers}
+use Rattle.dsa_settings.specs.Plan.{Plan}
+use Rattle.dsa_settings.specs.Settings.{Limits}
 use Rattle.dsa_calls.specs.declared.fault.PlanFault.{PlanFault}
 use Rattle.dsa_calls.specs.Judge.{Judges, JudgesPieces, JudgesPiecesBy, sizes_of}
 use Rattle.dsa_calls.specs.Lists.{IsListOf, OverList}

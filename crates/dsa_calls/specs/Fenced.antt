@@ -5,10 +5,10 @@ use Rattle.dsa_descriptor.specs.Fields.{Fields}
 use Rattle.dsa_descriptor.specs.Descriptors.{fields}
 use Rattle.dsa_descriptor.specs.Fences.{barriers_of, fences_of, unfenced_list}
 use Rattle.dsa_ranges.specs.Ranges.{ConflictAt}
-use Rattle.dsa_plan.specs.Barriers.{IsBarrier, WithBarriers}
-use Rattle.dsa_plan.specs.Plan.{Plan}
-use Rattle.dsa_plan.specs.Settings.{Limits, tariff_of}
-use Rattle.dsa_plan.specs.Legal.{IsLeast}
+use Rattle.dsa_settings.specs.Barriers.{IsBarrier, WithBarriers}
+use Rattle.dsa_settings.specs.Plan.{Plan}
+use Rattle.dsa_settings.specs.Settings.{Limits, tariff_of}
+use Rattle.dsa_settings.specs.Legal.{IsLeast}
 use Rattle.dsa_plan.specs.Certificate.{IsGood}
 use Rattle.dsa_splitter.specs.Pieces.{all_pieces, piece_barriers}
 use Rattle.dsa_splitter.specs.Rules.{IsSplit}

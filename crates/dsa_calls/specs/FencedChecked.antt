@@ -6,10 +6,10 @@ use Rattle.dsa_emission.specs.declared.emission_fault.EmissionFault.{EmissionFau
 use Rattle.dsa_emission.specs.declared.emission_fault.EmissionFault.TheVariants.{Memory as EmissionMemory}
 use Rattle.dsa_plan.specs.Certificate.{Contents}
 use Rattle.dsa_ranges.specs.Pieces.{Kind, descriptors}
-use Rattle.dsa_plan.specs.EmissionFaults.{IsEmission, IsEmissionAs, IsFirstEmissionFaultAs}
-use Rattle.dsa_plan.specs.Legal.{IsLeast}
-use Rattle.dsa_plan.specs.Plan.{Plan, plan_cost}
-use Rattle.dsa_plan.specs.Settings.{Limits, tariff_of}
+use Rattle.dsa_emission.specs.EmissionFaults.{IsEmission, IsEmissionAs, IsFirstEmissionFaultAs}
+use Rattle.dsa_settings.specs.Legal.{IsLeast}
+use Rattle.dsa_settings.specs.Plan.{Plan, plan_cost}
+use Rattle.dsa_settings.specs.Settings.{Limits, tariff_of}
 use Rattle.dsa_splitter.specs.Pieces.{all_pieces}
 use Rattle.dsa_splitter.specs.Rules.{IsSplit}
 use Rattle.dsa_calls.specs.declared.fault.PlanFault.{PlanFault}

@@ -2,7 +2,7 @@
 use Rattle.std.specs.Prelude.{◌≡◌, ◌⊎◌, ℕ, All, List, length, map, Result, Ok, Err}
 use Rattle.dsa_descriptor.specs.Descriptors.{fields}
 use Rattle.dsa_ranges.specs.Ranges.{ConflictAt}
-use Rattle.dsa_plan.specs.Settings.{Limits, AreInLimits, tariff_of}
+use Rattle.dsa_settings.specs.Settings.{Limits, AreInLimits, tariff_of}
 use Rattle.dsa_image.specs.Memory.{Memory, HoldsRanges}
 use Rattle.dsa_image.specs.declared.partial.Partial.{Partial}
 use Rattle.dsa_descriptor.specs.declared.descriptor.Descriptor.{Descriptor}
@@ -11,10 +11,9 @@ use Rattle.dsa_core.specs.Run.{State}
 use Rattle.dsa_core.specs.PieceRuns.{IsCompleteRun}
 use Rattle.dsa_calls.specs.Lists.{IsListOf}
 use Rattle.dsa_core.specs.declared.event.Event.{Event}
-use Rattle.dsa_plan.specs.Plan.{Plan}
-use Rattle.dsa_plan.specs.Legal.{IsLeast}
-use Rattle.dsa_plan.specs.Certificate.{IsGood}
-use Rattle.dsa_plan.specs.Certificate.{Contents}
+use Rattle.dsa_settings.specs.Plan.{Plan}
+use Rattle.dsa_settings.specs.Legal.{IsLeast}
+use Rattle.dsa_plan.specs.Certificate.{IsGood, Contents}
 use Rattle.dsa_calls.specs.declared.fault.PlanFault.{PlanFault}
 use Rattle.dsa_calls.specs.Judge.{Judges}
 use Rattle.dsa_calls.specs.Planned.{Submission, Plans}

@@ -7,17 +7,16 @@ use Rattle.dsa_descriptor.specs.Lists.{HaveOneOwner}
 use Rattle.dsa_descriptor.specs.Spans.{InSpan}
 use Rattle.dsa_descriptor.specs.Pieces.{most_pieces}
 use Rattle.dsa_ranges.specs.Ranges.{ConflictAt, Touches}
-use Rattle.dsa_plan.specs.Settings.{Limits, tariff_of, version_of}
-use Rattle.dsa_plan.specs.Plan.{Plan, plan_cost}
+use Rattle.dsa_settings.specs.Settings.{Limits, tariff_of, version_of}
+use Rattle.dsa_settings.specs.Plan.{Plan, plan_cost}
 use Rattle.dsa_plan.specs.Chain.{Pairs}
-use Rattle.dsa_plan.specs.Emission.{portal_bytes, staging_bytes, staging_span}
+use Rattle.dsa_emission.specs.Emission.{portal_bytes, staging_bytes, staging_span}
 use Rattle.dsa_splitter.specs.declared.fault.SplitFault.{SplitFault}
 use Rattle.dsa_splitter.specs.declared.fault.SplitFault.TheVariants.{Memory as SplitMemory}
 use Rattle.dsa_splitter.specs.Pieces.{all_pieces}
 use Rattle.dsa_splitter.specs.Rules.{IsSplit, IsFirstSplitFault}
 use Rattle.dsa_search.specs.Chosen.{IsChosen}
-use Rattle.dsa_plan.specs.Certificate.{Contents}
-use Rattle.dsa_plan.specs.Certificate.{contents}
+use Rattle.dsa_plan.specs.Certificate.{Contents, contents}
 use Rattle.dsa_calls.specs.declared.fault.PlanFault.{PlanFault}
 use Rattle.dsa_calls.specs.declared.planning.Planned.{Planned}
 use Rattle.dsa_calls.specs.declared.fault.PlanFault.TheVariants.{Split}

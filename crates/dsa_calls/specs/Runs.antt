@@ -5,8 +5,8 @@ use Rattle.dsa_descriptor.specs.Fields.{Fields}
 use Rattle.dsa_descriptor.specs.Descriptors.{fields}
 use Rattle.dsa_image.specs.Memory.{Memory, HoldsRanges}
 use Rattle.dsa_image.specs.Holding.{IsFirstOutside}
-use Rattle.dsa_plan.specs.Settings.{Limits}
-use Rattle.dsa_plan.specs.Plan.{Plan}
+use Rattle.dsa_settings.specs.Settings.{Limits}
+use Rattle.dsa_settings.specs.Plan.{Plan}
 use Rattle.dsa_splitter.specs.Pieces.{all_whole, whole_statuses}
 use Rattle.dsa_core.specs.declared.event.Event.{Event}
 use Rattle.dsa_core.specs.declared.outcome.Outcome.{Outcome}

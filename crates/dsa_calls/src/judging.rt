@@ -2,7 +2,7 @@
 
 ghost use Rattle.std.specs.Prelude.{ℕ, Result, map};
 ghost use Rattle.dsa_calls.specs.declared.fault.PlanFault.{PlanFault};
-ghost use Rattle.dsa_plan.specs.Barriers.{WithBarriers};
+ghost use Rattle.dsa_settings.specs.Barriers.{WithBarriers};
 ghost use Rattle.dsa_calls.specs.Fenced.{JudgesFenced};
 ghost use Rattle.dsa_calls.specs.Judge.{Judges, JudgesPiecesBy, FindsOver};
 ghost use Rattle.dsa_calls.specs.Lists.{OrMemory, IsOrMemory};

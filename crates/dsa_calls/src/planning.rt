@@ -4,11 +4,10 @@ ghost use Rattle.std.specs.Prelude.{◌≡◌, ◌⊎◌, [], Bool, List, length
 ghost use Rattle.dsa_descriptor.specs.declared.descriptor.Descriptor.{Descriptor};
 ghost use Rattle.dsa_descriptor.specs.Descriptors.{fields};
 ghost use Rattle.dsa_ranges.specs.Ranges.{ConflictAt};
-ghost use Rattle.dsa_plan.specs.Barriers.{WithBarriers};
-ghost use Rattle.dsa_plan.specs.Legal.{IsLeast};
-ghost use Rattle.dsa_plan.specs.Certificate.{IsGood};
-ghost use Rattle.dsa_plan.specs.Settings.{Limits, tariff_of};
-ghost use Rattle.dsa_plan.specs.Certificate.{contents};
+ghost use Rattle.dsa_settings.specs.Barriers.{WithBarriers};
+ghost use Rattle.dsa_settings.specs.Legal.{IsLeast};
+ghost use Rattle.dsa_plan.specs.Certificate.{IsGood, contents};
+ghost use Rattle.dsa_settings.specs.Settings.{Limits, tariff_of};
 ghost use Rattle.dsa_splitter.specs.Pieces.{piece_barriers};
 ghost use Rattle.dsa_calls.specs.declared.fault.PlanFault.{PlanFault};
 ghost use Rattle.dsa_calls.specs.declared.fault.PlanFault.TheVariants.{Memory};

@@ -4,13 +4,13 @@ ghost use Rattle.std.specs.Prelude.{◌≡◌, ◌≤◌, ◌⊎◌, IfOk, Match
 ghost use Rattle.dsa_descriptor.specs.Descriptors.{fields};
 ghost use Rattle.dsa_descriptor.specs.Pieces.{most_pieces};
 ghost use Rattle.dsa_ranges.specs.Ranges.{ConflictAt};
-ghost use Rattle.dsa_plan.specs.Legal.{IsLegal};
+ghost use Rattle.dsa_settings.specs.Legal.{IsLegal};
 ghost use Rattle.dsa_core.specs.Accounts.{most_members};
 ghost use Rattle.dsa_core.specs.Given.{IsRunnable};
 ghost use Rattle.dsa_calls.specs.declared.fault.PlanFault.{PlanFault};
 ghost use Rattle.dsa_calls.specs.declared.fault.PlanFault.TheVariants.{Memory};
 ghost use Rattle.dsa_calls.specs.Lists.{OrMemory, IsOrMemory};
-ghost use Rattle.dsa_plan.specs.Settings.{AreInLimits};
+ghost use Rattle.dsa_settings.specs.Settings.{AreInLimits};
 ghost use Rattle.dsa_calls.specs.Planned.{IsPlanOf};
 ghost use Rattle.dsa_calls.specs.Runs.{BeginsWith, CanBegin, IsReady, Left, LeavesWhole, RefusesRun, Replays, ReplaysPieces, left_of};
 

@@ -5,8 +5,8 @@ use Rattle.std.proofs.lemmas.List.{get_or-set_same, get_or-set_other}
 use Rattle.std.proofs.Math.Nat.{mul-add}
 use Rattle.dsa_plan.specs.Chain.{Pairs, GoForward, LeadsTo, IsLastBelow, HasCountBelow}
 use Rattle.dsa_plan.proofs.Chains.{LeadsTo-same}
-use Rattle.dsa_plan.specs.Plan.{price_of}
-use Rattle.dsa_plan.specs.Settings.{sized_tariff}
+use Rattle.dsa_settings.specs.Plan.{price_of}
+use Rattle.dsa_settings.specs.Settings.{sized_tariff}
 use Rattle.dsa_plan.proofs.Fences.{price_of-batch}
 use Rattle.dsa_checker.specs.Steps.{StepHolds}
 use Rattle.dsa_checker.specs.Blocks.{place, HasRows, IsFilled, IsRowOf, AreChains}

@@ -1,8 +1,8 @@
 -- When a pair holds, by what is looked at.
 use Rattle.std.proofs.Common.{ℕ, ◌≡◌, ◌+◌, ◌-◌, ◌<◌, ◌≤◌, ◌⊎◌, inl, inr, Bool, List, Some, sym, ◌∙◌, subst, slice_get, arith}
 use Rattle.std.proofs.lemmas.Option.{same_Some}
-use Rattle.dsa_plan.specs.Legal.{ConflictsWithin}
-use Rattle.dsa_plan.specs.Barriers.{IsBarrier, WithBarriers}
+use Rattle.dsa_settings.specs.Legal.{ConflictsWithin}
+use Rattle.dsa_settings.specs.Barriers.{IsBarrier, WithBarriers}
 use Rattle.dsa_plan.specs.Chain.{Pairs}
 use Rattle.dsa_settings.proofs.Barriers.{parted_by, by_conflict, by_barrier}
 use Rattle.dsa_checker.specs.Steps.{PairHolds}

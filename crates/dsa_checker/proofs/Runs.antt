@@ -1,10 +1,10 @@
 -- Steps of the prices along one run of a chain, where a batch has a price by its size.
 use Rattle.std.proofs.Common.{ℕ, ◌≡◌, ◌+◌, ◌-◌, ◌*◌, ◌≤◌, List, slice_index, arith}
-use Rattle.dsa_plan.specs.Plan.{Tariff, price_of}
+use Rattle.dsa_settings.specs.Plan.{Tariff, price_of}
 use Rattle.dsa_plan.specs.Chain.{Pairs, GoForward, LeadsTo, IsLastBelow, HasCountBelow}
 use Rattle.dsa_plan.proofs.Fences.{price_of-batch}
 use Rattle.dsa_checker.specs.Steps.{StepHolds}
-use Rattle.dsa_plan.specs.Settings.{sized_tariff}
+use Rattle.dsa_settings.specs.Settings.{sized_tariff}
 use Rattle.dsa_checker.specs.Sized.{AreWithin, IsFirstAbove}
 use Rattle.dsa_checker.proofs.Led.{step_by_count}
 

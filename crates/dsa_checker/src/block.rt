@@ -3,7 +3,7 @@
 ghost use Rattle.std.specs.Prelude.{◌≡◌, ◌⊎◌, ℕ, ◌+◌, ◌-◌, ◌^◌, ◌<◌, ◌≤◌, max, List, length, slice_index, IsTrue, IfSome};
 ghost use Rattle.dsa_descriptor.specs.Pieces.{most_pieces};
 ghost use Rattle.dsa_plan.specs.Chain.{GoForward, LeadsTo, IsLastBelow};
-ghost use Rattle.dsa_plan.specs.Settings.{sized_tariff};
+ghost use Rattle.dsa_settings.specs.Settings.{sized_tariff};
 ghost use Rattle.dsa_checker.specs.Steps.{HoldsWithin};
 ghost use Rattle.dsa_checker.specs.Blocks.{place, HasRows, IsFilled, IsRowOf};
 ghost use Rattle.dsa_checker.specs.Sized.{IsSheet};

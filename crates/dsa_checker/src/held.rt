@@ -3,7 +3,7 @@
 ghost use Rattle.std.specs.Prelude.{◌≡◌, ℕ, ◌+◌, ◌-◌, ◌%◌, ◌^◌, ◌<◌, ◌≤◌, length, slice_index, IsTrue};
 ghost use Rattle.dsa_descriptor.specs.Pieces.{most_pieces};
 ghost use Rattle.dsa_plan.specs.Chain.{GoForward, IsLastBelow};
-ghost use Rattle.dsa_plan.specs.Settings.{sized_tariff};
+ghost use Rattle.dsa_settings.specs.Settings.{sized_tariff};
 ghost use Rattle.dsa_checker.specs.Steps.{HoldsWithin, StepsHoldFrom};
 ghost use Rattle.dsa_checker.specs.Blocks.{IsFilled, AreChains};
 ghost use Rattle.dsa_checker.specs.Sized.{IsSheet};

@@ -4,7 +4,7 @@ ghost use Rattle.std.specs.Prelude.{◌≡◌, ℕ, ◌+◌, ◌<◌, ◌≤◌,
 ghost use Rattle.dsa_descriptor.specs.Pieces.{most_pieces};
 ghost use Rattle.dsa_plan.specs.Chain.{GoForward, LeadsTo};
 ghost use Rattle.dsa_checker.specs.Steps.{StepsHold, StepsHoldFrom, IsFirstBadEnd, IsFirstBadStep};
-ghost use Rattle.dsa_plan.specs.Settings.{sized_tariff};
+ghost use Rattle.dsa_settings.specs.Settings.{sized_tariff};
 ghost use Rattle.dsa_checker.specs.Sized.{AreWithin, IsFirstAbove, IsSheet};
 
 use crate::block::PriceSheet;

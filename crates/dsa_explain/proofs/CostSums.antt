@@ -1,7 +1,7 @@
 -- The costs of the groups of a plan.
 use Rattle.std.proofs.Common.{ℕ, ◌+◌, [], ◌∷◌, refl, sym, ap, ◌∙◌}
 use Rattle.std.proofs.lemmas.List.Sums.{sum_by-cons}
-use Rattle.dsa_plan.specs.Plan.{group_cost}
+use Rattle.dsa_settings.specs.Plan.{group_cost}
 use Rattle.dsa_plan.specs.declared.costs.GroupCost.{GroupCost}
 use Rattle.dsa_plan.specs.Costs.{costs_of_group, costs_of_groups}
 use Rattle.dsa_explain.specs.Laws.{GroupCostsAddUp}

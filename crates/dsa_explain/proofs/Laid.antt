@@ -2,7 +2,7 @@
 use Rattle.std.proofs.Common.{◌≡◌, ℕ, suc, ◌+◌, Bool, cond, [], ◌∷◌, length, refl, sym, ap, ◌∙◌, length-append, arith}
 use Rattle.std.specs.Prelude.{sum_by}
 use Rattle.std.proofs.lemmas.List.Sums.{sum_by-cons, sum_by-append}
-use Rattle.dsa_plan.specs.Plan.{Group, Plan, fence_count, piece_count}
+use Rattle.dsa_settings.specs.Plan.{Group, Plan, fence_count, piece_count}
 use Rattle.dsa_explain.specs.declared.cells.Cell.{Cell}
 use Rattle.dsa_explain.specs.Cells.{row_cells, cells_from}
 use Rattle.dsa_explain.specs.Laws.{CellsArePiecesAndFences}

@@ -3,8 +3,8 @@ use Rattle.std.proofs.Common.{◌≡◌, ℕ, suc, ◌+◌, ◌-◌, ◌<◌, �
 use Rattle.std.specs.Prelude.{min}
 use Rattle.std.proofs.lemmas.Bool.{cases_eq, cases_lt}
 use Rattle.std.proofs.lemmas.Option.{slice_get_within}
-use Rattle.dsa_plan.specs.Plan.{Group}
-use Rattle.dsa_plan.specs.Legal.{IsFenced}
+use Rattle.dsa_settings.specs.Plan.{Group}
+use Rattle.dsa_settings.specs.Legal.{IsFenced}
 use Rattle.dsa_plan.specs.Chain.{Pairs, Reaches, HasChainFences, IsFirstPair, HasPairs}
 use Rattle.dsa_plan.proofs.Chains.{Reaches-same, Reaches-lt, Reaches-le, Reaches-from_start}
 use Rattle.dsa_plan.proofs.Groups.{forward_from_pairs}

@@ -2,8 +2,8 @@
 use Rattle.std.proofs.Common.{◌≡◌, ℕ, zero, suc, ◌*◌, ◌<◌, false, [], ◌∷◌, length, Some, refl, sym, subst, arith}
 use Rattle.std.specs.Prelude.{slice_get}
 use Rattle.std.proofs.lemmas.List.Sums.{sum_by-cons}
-use Rattle.dsa_plan.specs.Plan.{Tariff, Group, Plan, group_cost, plan_cost, piece_count, start_of}
-use Rattle.dsa_plan.specs.Legal.{IsLegal, IsLegalGroup}
+use Rattle.dsa_settings.specs.Plan.{Tariff, Group, Plan, group_cost, plan_cost, piece_count, start_of}
+use Rattle.dsa_settings.specs.Legal.{IsLegal, IsLegalGroup}
 use Rattle.dsa_explain.specs.Laws.{LeastPlansSave}
 
 single : Group

@@ -1,6 +1,6 @@
 -- The cells of a picture.
 use Rattle.std.specs.Prelude.{ℕ, suc, List, [], ◌∷◌, ◌++◌}
-use Rattle.dsa_plan.specs.Plan.{Group, Plan}
+use Rattle.dsa_settings.specs.Plan.{Group, Plan}
 use Rattle.dsa_explain.specs.declared.cells.Cell.{Cell}
 
 -- the cells of a group, from this column on

@@ -2,12 +2,12 @@
 use Rattle.std.specs.Prelude.{◌≡◌, ◌<◌, ◌≤◌, Bool, List, length, map, Result, Ok, Err}
 use Rattle.dsa_operations.specs.declared.operation.Operation.{Operation}
 use Rattle.dsa_descriptor.specs.Pieces.{most_pieces}
-use Rattle.dsa_plan.specs.Barriers.{WithBarriers}
-use Rattle.dsa_plan.specs.Plan.{Plan}
-use Rattle.dsa_plan.specs.Settings.{Limits}
-use Rattle.dsa_plan.specs.Legal.{IsLegal}
+use Rattle.dsa_settings.specs.Barriers.{WithBarriers}
+use Rattle.dsa_settings.specs.Plan.{Plan}
+use Rattle.dsa_settings.specs.Settings.{Limits}
+use Rattle.dsa_settings.specs.Legal.{IsLegal}
 use Rattle.dsa_plan.specs.Costs.{AreCosts}
-use Rattle.dsa_plan.specs.LegalFaults.{IsFirstLegalFault}
+use Rattle.dsa_settings.specs.LegalFaults.{IsFirstLegalFault}
 use Rattle.dsa_explain.specs.Cells.{cells_from}
 use Rattle.dsa_operations.specs.Operations.{OperationConflictAt, reads_of, writes_of}
 use Rattle.dsa_reasons.specs.Fences.{AreFencesOf}

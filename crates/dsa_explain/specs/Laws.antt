@@ -1,7 +1,7 @@
 -- What explanations promise.
 use Rattle.std.specs.Prelude.{ℕ, ◌≡◌, ◌*◌, ◌<◌, ◌≤◌, length, count_by, sum_by}
-use Rattle.dsa_plan.specs.Plan.{Tariff, Plan, fence_count, plan_cost, piece_count}
-use Rattle.dsa_plan.specs.Legal.{IsLeast}
+use Rattle.dsa_settings.specs.Plan.{Tariff, Plan, fence_count, plan_cost, piece_count}
+use Rattle.dsa_settings.specs.Legal.{IsLeast}
 use Rattle.dsa_explain.specs.Cells.{cells_from}
 use Rattle.dsa_plan.specs.Costs.{costs_of_groups}
 

@@ -2,7 +2,7 @@
 use Rattle.std.specs.Prelude.{ℕ, suc, ◌+◌, ◌-◌, ◌==◌, ◌&&◌, not, nat_le, Bool, true, false, List, [], ◌∷◌, map, slice_get, string_bytes, Option, Some, None, if◌then◌else◌}
 use Rattle.dsa_operations.specs.declared.operation.Operation.{Operation}
 use Rattle.dsa_operations.specs.Operations.{size_of}
-use Rattle.dsa_plan.specs.Settings.{Limits}
+use Rattle.dsa_settings.specs.Settings.{Limits}
 use Rattle.dsa_plan.specs.declared.costs.GroupCost.{GroupCost}
 use Rattle.dsa_explain.specs.declared.cells.Cell.{Cell}
 use Rattle.dsa_reasons.specs.declared.fences.Detail.{Detail}

@@ -5,7 +5,7 @@ use Rattle.dsa_operations.specs.declared.operation.Operation.{Operation}
 use Rattle.dsa_operations.specs.declared.operation.Operation.TheVariants as operation
 use Rattle.dsa_operations.specs.OperationFields.{operation_fields}
 use Rattle.dsa_lines.specs.Text.{line_text}
-use Rattle.dsa_plan.specs.Settings.{Limits}
+use Rattle.dsa_settings.specs.Settings.{Limits}
 use Rattle.dsa_plan.specs.declared.costs.Costs.{Costs}
 use Rattle.dsa_plan.specs.declared.costs.GroupCost.{GroupCost}
 use Rattle.dsa_operations.specs.Operations.{size_of, writes_of}

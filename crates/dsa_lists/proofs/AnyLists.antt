@@ -7,10 +7,10 @@ use Rattle.dsa_descriptor.specs.Descriptors.{fields}
 use Rattle.dsa_descriptor.specs.Fences.{barriers_of, unfenced_list}
 use Rattle.dsa_descriptor.specs.Fields.{Fields}
 use Rattle.dsa_ranges.specs.Ranges.{ConflictAt}
-use Rattle.dsa_plan.specs.Barriers.{WithBarriers}
-use Rattle.dsa_plan.specs.Plan.{Plan}
+use Rattle.dsa_settings.specs.Barriers.{WithBarriers}
+use Rattle.dsa_settings.specs.Plan.{Plan}
 use Rattle.dsa_plan.specs.Certificate.{Contents, contents}
-use Rattle.dsa_plan.specs.Settings.{Limits}
+use Rattle.dsa_settings.specs.Settings.{Limits}
 use Rattle.dsa_calls.specs.declared.checking.FencedFault.{FencedFault}
 use Rattle.dsa_calls.specs.declared.checking.FencedFault.TheVariants.{Call}
 use Rattle.dsa_calls.specs.declared.fault.PlanFault.{PlanFault}

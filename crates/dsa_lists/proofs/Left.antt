@@ -19,8 +19,8 @@ use Rattle.dsa_descriptor.proofs.Marked as descriptors
 use Rattle.dsa_descriptor.specs.declared.span.Span.{Span}
 use Rattle.dsa_ranges.specs.Pieces.{writes_of as descriptor_writes}
 use Rattle.dsa_ranges.specs.Ranges.{Touches}
-use Rattle.dsa_plan.specs.Emission.{staging_span}
-use Rattle.dsa_plan.specs.Settings.{Limits}
+use Rattle.dsa_emission.specs.Emission.{staging_span}
+use Rattle.dsa_settings.specs.Settings.{Limits}
 use Rattle.dsa_calls.specs.declared.fault.PlanFault.{PlanFault}
 use Rattle.dsa_calls.specs.declared.fault.PlanFault.TheVariants.{List as InList}
 use Rattle.dsa_calls.specs.Fenced.{PlansFenced}

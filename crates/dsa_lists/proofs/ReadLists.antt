@@ -9,10 +9,10 @@ use Rattle.dsa_descriptor.specs.Lists.{AreOfOneOwner, HaveOneOwner}
 use Rattle.dsa_descriptor.specs.Pieces.{most_pieces}
 use Rattle.dsa_descriptor.proofs.Listed.{one_owner}
 use Rattle.dsa_ranges.specs.Ranges.{ConflictAt}
-use Rattle.dsa_plan.specs.Barriers.{WithBarriers}
-use Rattle.dsa_plan.specs.Legal.{IsLegal}
-use Rattle.dsa_plan.specs.Plan.{Plan}
-use Rattle.dsa_plan.specs.Settings.{Limits}
+use Rattle.dsa_settings.specs.Barriers.{WithBarriers}
+use Rattle.dsa_settings.specs.Legal.{IsLegal}
+use Rattle.dsa_settings.specs.Plan.{Plan}
+use Rattle.dsa_settings.specs.Settings.{Limits}
 use Rattle.dsa_splitter.specs.Pieces.{piece_barriers}
 use Rattle.dsa_splitter.proofs.Walks.{length_all}
 use Rattle.dsa_calls.specs.declared.fault.PlanFault.{PlanFault}

@@ -12,10 +12,10 @@ use Rattle.dsa_ranges.specs.Pieces.{TouchesAt, descriptors}
 use Rattle.dsa_ranges.specs.Ranges.{ConflictAt}
 use Rattle.dsa_settings.specs.Staging.{staging_area}
 use Rattle.dsa_plan.specs.Certificate.{Contents, IsGood}
-use Rattle.dsa_plan.specs.EmissionFaults.{IsEmissionAs}
-use Rattle.dsa_plan.specs.Legal.{ConflictsWithin, IsLegal}
-use Rattle.dsa_plan.specs.Plan.{Plan, Tariff}
-use Rattle.dsa_plan.specs.Settings.{Limits, tariff_of}
+use Rattle.dsa_emission.specs.EmissionFaults.{IsEmissionAs}
+use Rattle.dsa_settings.specs.Legal.{ConflictsWithin, IsLegal}
+use Rattle.dsa_settings.specs.Plan.{Plan, Tariff}
+use Rattle.dsa_settings.specs.Settings.{Limits, tariff_of}
 use Rattle.dsa_emission.proofs.Places.{portal_map, staging_map}
 use Rattle.dsa_calls.proofs.BytesChecked.{descriptors_emission, said_of_plan}
 use Rattle.dsa_calls.specs.Checked.{IsShownLeastBy}

@@ -1,12 +1,12 @@
 -- What checking says of an emission for a list of operations.
 use Rattle.std.specs.Prelude.{◌≡◌, ◌⊎◌, ℕ, List, length, Result, Err}
 use Rattle.dsa_descriptor.specs.Fences.{barriers_of}
-use Rattle.dsa_plan.specs.Barriers.{WithBarriers}
+use Rattle.dsa_settings.specs.Barriers.{WithBarriers}
 use Rattle.dsa_plan.specs.Certificate.{Contents}
-use Rattle.dsa_plan.specs.EmissionFaults.{IsEmissionAs}
-use Rattle.dsa_plan.specs.Legal.{IsLeast}
-use Rattle.dsa_plan.specs.Plan.{Plan, plan_cost}
-use Rattle.dsa_plan.specs.Settings.{Limits, tariff_of}
+use Rattle.dsa_emission.specs.EmissionFaults.{IsEmissionAs}
+use Rattle.dsa_settings.specs.Legal.{IsLeast}
+use Rattle.dsa_settings.specs.Plan.{Plan, plan_cost}
+use Rattle.dsa_settings.specs.Settings.{Limits, tariff_of}
 use Rattle.dsa_calls.specs.declared.checking.FencedFault.{FencedFault}
 use Rattle.dsa_calls.specs.declared.checking.FencedFault.TheVariants.{Call}
 use Rattle.dsa_calls.specs.declared.fault.PlanFault.{PlanFault}

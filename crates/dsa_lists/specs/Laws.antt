@@ -4,9 +4,9 @@ use Rattle.dsa_descriptor.specs.declared.descriptor.Descriptor.{Descriptor}
 use Rattle.dsa_descriptor.specs.Descriptors.{fields}
 use Rattle.dsa_ranges.specs.Ranges.{ConflictAt}
 use Rattle.dsa_plan.specs.Certificate.{Contents}
-use Rattle.dsa_plan.specs.EmissionFaults.{IsEmission}
-use Rattle.dsa_plan.specs.Plan.{Plan}
-use Rattle.dsa_plan.specs.Settings.{Limits}
+use Rattle.dsa_emission.specs.EmissionFaults.{IsEmission}
+use Rattle.dsa_settings.specs.Plan.{Plan}
+use Rattle.dsa_settings.specs.Settings.{Limits}
 use Rattle.dsa_calls.specs.Checked.{Checks, ChecksSubmitted}
 use Rattle.dsa_operations.specs.declared.operation.Operation.TheVariants as operation
 use Rattle.dsa_operations.specs.Operations.{OperationConflictAt, operation_kind}

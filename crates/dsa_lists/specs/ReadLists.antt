@@ -2,8 +2,8 @@
 use Rattle.std.specs.Prelude.{◌≡◌, ◌⊎◌, ℕ, Bool, List, map, Result, Ok, Err}
 use Rattle.dsa_descriptor.specs.declared.descriptor.Descriptor.{Descriptor}
 use Rattle.dsa_descriptor.specs.Descriptors.{fields}
-use Rattle.dsa_plan.specs.Plan.{Plan}
-use Rattle.dsa_plan.specs.Settings.{Limits}
+use Rattle.dsa_settings.specs.Plan.{Plan}
+use Rattle.dsa_settings.specs.Settings.{Limits}
 use Rattle.dsa_splitter.specs.Pieces.{piece_barriers}
 use Rattle.dsa_calls.specs.declared.fault.PlanFault.{PlanFault}
 use Rattle.dsa_calls.specs.Fenced.{PlansWith}

@@ -4,7 +4,7 @@ use Rattle.std.specs.Prelude.{◌≡◌, ◌⊎◌, ℕ, Bool, List, map, Result
 use Rattle.dsa_descriptor.specs.declared.descriptor.Descriptor.{Descriptor}
 use Rattle.dsa_descriptor.specs.Descriptors.{fields}
 use Rattle.dsa_descriptor.specs.Fences.{barriers_of, fenced_entries}
-use Rattle.dsa_plan.specs.Settings.{Limits}
+use Rattle.dsa_settings.specs.Settings.{Limits}
 use Rattle.dsa_calls.specs.declared.fault.PlanFault.{PlanFault}
 use Rattle.dsa_resume.specs.declared.fault.ResumeFault.{ResumeFault}
 use Rattle.dsa_resume.specs.declared.fault.ResumeFault.TheVariants.{Plan}

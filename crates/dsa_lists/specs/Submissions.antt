@@ -10,11 +10,11 @@ use Rattle.dsa_descriptor.specs.Pieces.{most_pieces}
 use Rattle.dsa_descriptor.specs.Spans.{InSpan}
 use Rattle.dsa_ranges.specs.Pieces.{TouchesAt}
 use Rattle.dsa_settings.specs.Staging.{staging_area}
-use Rattle.dsa_plan.specs.Settings.{Limits, tariff_of, version_of}
-use Rattle.dsa_plan.specs.Plan.{Plan, plan_cost}
-use Rattle.dsa_plan.specs.Barriers.{WithBarriers}
+use Rattle.dsa_settings.specs.Settings.{Limits, tariff_of, version_of}
+use Rattle.dsa_settings.specs.Plan.{Plan, plan_cost}
+use Rattle.dsa_settings.specs.Barriers.{WithBarriers}
 use Rattle.dsa_plan.specs.Certificate.{Contents, IsGood, contents}
-use Rattle.dsa_plan.specs.Legal.{IsLeast}
+use Rattle.dsa_settings.specs.Legal.{IsLeast}
 use Rattle.dsa_emission.specs.Emission.{portal_of, staging_of}
 use Rattle.dsa_splitter.specs.declared.fault.SplitFault.TheVariants.{TooManyPieces, StagingMeets}
 use Rattle.dsa_search.specs.Chosen.{IsChosen}

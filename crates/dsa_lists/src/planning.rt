@@ -2,11 +2,11 @@
 
 ghost use Rattle.std.specs.Prelude.{◌≤◌, IfOk, length};
 ghost use Rattle.dsa_descriptor.specs.Pieces.{most_pieces};
-ghost use Rattle.dsa_plan.specs.Plan.{plan_cost};
-ghost use Rattle.dsa_plan.specs.Legal.{IsLeast};
+ghost use Rattle.dsa_settings.specs.Plan.{plan_cost};
+ghost use Rattle.dsa_settings.specs.Legal.{IsLeast};
 ghost use Rattle.dsa_plan.specs.Certificate.{IsGood};
-ghost use Rattle.dsa_plan.specs.Settings.{tariff_of};
-ghost use Rattle.dsa_plan.specs.Barriers.{WithBarriers};
+ghost use Rattle.dsa_settings.specs.Settings.{tariff_of};
+ghost use Rattle.dsa_settings.specs.Barriers.{WithBarriers};
 ghost use Rattle.dsa_search.specs.Chosen.{IsChosen};
 ghost use Rattle.dsa_operations.specs.Operations.{OperationConflictAt};
 

@@ -4,8 +4,8 @@ ghost use Rattle.std.specs.Prelude.{◌≡◌, ◌≢◌, ◌≤◌, [], IfErr, 
 ghost use Rattle.dsa_descriptor.specs.Descriptors.{fields};
 ghost use Rattle.dsa_descriptor.specs.Lists.{HaveOneOwner};
 ghost use Rattle.dsa_descriptor.specs.Pieces.{most_pieces};
-ghost use Rattle.dsa_plan.specs.Barriers.{WithBarriers};
-ghost use Rattle.dsa_plan.specs.Legal.{IsLegal};
+ghost use Rattle.dsa_settings.specs.Barriers.{WithBarriers};
+ghost use Rattle.dsa_settings.specs.Legal.{IsLegal};
 ghost use Rattle.dsa_calls.specs.Lists.{OrMemory};
 ghost use Rattle.dsa_operations.specs.Operations.{OperationConflictAt};
 ghost use Rattle.dsa_operations.specs.declared.operation.Operation.TheVariants as operation;

@@ -2,10 +2,10 @@
 
 ghost use Rattle.std.specs.Prelude.{◌≡◌, ◌↔◌, Bool, List, length, IfOk, IsTrue, MatchOption, Err, Result};
 ghost use Rattle.dsa_descriptor.specs.Lists.{AreOfOneOwner};
-ghost use Rattle.dsa_plan.specs.Barriers.{WithBarriers};
-ghost use Rattle.dsa_plan.specs.Legal.{IsLeast};
+ghost use Rattle.dsa_settings.specs.Barriers.{WithBarriers};
+ghost use Rattle.dsa_settings.specs.Legal.{IsLeast};
 ghost use Rattle.dsa_plan.specs.Certificate.{IsGood};
-ghost use Rattle.dsa_plan.specs.Settings.{tariff_of};
+ghost use Rattle.dsa_settings.specs.Settings.{tariff_of};
 ghost use Rattle.dsa_calls.specs.declared.fault.PlanFault.{PlanFault};
 ghost use Rattle.dsa_calls.specs.Lists.{IsOrMemory, OrMemory};
 ghost use Rattle.dsa_operations.specs.Operations.{OperationConflictAt, spelling_of};

@@ -18,9 +18,9 @@ use Rattle.dsa_operations.specs.declared.operation.Operation.{Operation}
 use Rattle.dsa_operations.specs.declared.operation.Operation.TheVariants as operation
 use Rattle.dsa_operations.specs.Operations.{OperationConflictAt, operation_kind, reads_of, spelling_of, writes_of}
 use Rattle.dsa_operations.specs.Spelling.{checksum_spelling}
-use Rattle.dsa_plan.specs.Barriers.{WithBarriers}
-use Rattle.dsa_plan.specs.Plan.{Plan}
-use Rattle.dsa_plan.specs.Settings.{Limits, tariff_of}
+use Rattle.dsa_settings.specs.Barriers.{WithBarriers}
+use Rattle.dsa_settings.specs.Plan.{Plan}
+use Rattle.dsa_settings.specs.Settings.{Limits, tariff_of}
 use Rattle.dsa_search.specs.Chosen.{IsChosen}
 use Rattle.dsa_calls.specs.Judge.{FitTransfer}
 use Rattle.dsa_calls.specs.Lists.{IsListOf}

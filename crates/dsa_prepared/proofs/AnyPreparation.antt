@@ -10,7 +10,7 @@ use Rattle.dsa_descriptor.proofs.Listed.{list_is}
 use Rattle.dsa_operations.specs.declared.operation.Operation.{Operation}
 use Rattle.dsa_operations.specs.declared.operation.Operation.TheVariants as operation
 use Rattle.dsa_operations.specs.Operations.{spelling_of}
-use Rattle.dsa_plan.specs.Settings.{Limits}
+use Rattle.dsa_settings.specs.Settings.{Limits}
 use Rattle.dsa_calls.specs.declared.fault.PlanFault.TheVariants.{List as InList, Memory}
 use Rattle.dsa_calls.specs.Fenced.{PlansFenced}
 use Rattle.dsa_calls.specs.Lists.{IsListOf}

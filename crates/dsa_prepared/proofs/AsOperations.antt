@@ -8,12 +8,11 @@ use Rattle.dsa_descriptor.specs.declared.span.Span.{Span}
 use Rattle.dsa_descriptor.specs.Descriptors.{fields}
 use Rattle.dsa_descriptor.specs.Fields.{Fields}
 use Rattle.dsa_descriptor.specs.Spelling.{spelling}
-use Rattle.dsa_emission.specs.Emission.{portal_of, staging_of}
+use Rattle.dsa_emission.specs.Emission.{portal_of, staging_of, portal_bytes, staging_bytes}
 use Rattle.dsa_emission.proofs.Places.{portal_map, staging_map}
 use Rattle.dsa_operations.specs.declared.operation.Operation.TheVariants as operation
-use Rattle.dsa_plan.specs.Plan.{Plan}
-use Rattle.dsa_plan.specs.Settings.{Limits}
-use Rattle.dsa_plan.specs.Emission.{portal_bytes, staging_bytes}
+use Rattle.dsa_settings.specs.Plan.{Plan}
+use Rattle.dsa_settings.specs.Settings.{Limits}
 use Rattle.dsa_splitter.specs.Operations.{IsSplittable}
 use Rattle.dsa_prepared.specs.Relocated.{relocated_fields, relocated_spelling}
 use Rattle.dsa_prepared.specs.Regions.{AllLieInOne, AllPiecesLie, IsOneOrSplittable, LiesWhole, OperationLies}

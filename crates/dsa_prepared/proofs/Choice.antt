@@ -2,7 +2,7 @@
 use Rattle.std.proofs.Common.{ℕ, List, map}
 use Rattle.dsa_descriptor.specs.Fields.{Fields}
 use Rattle.dsa_ranges.specs.Ranges.{ConflictAt}
-use Rattle.dsa_plan.specs.Plan.{Tariff, Plan}
+use Rattle.dsa_settings.specs.Plan.{Tariff, Plan}
 use Rattle.dsa_plan.specs.Chain.{Pairs}
 use Rattle.dsa_search.specs.Chosen.{IsChosen}
 use Rattle.dsa_calls.proofs.SameChoice.{chosen_goes}

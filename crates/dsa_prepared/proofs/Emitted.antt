@@ -9,8 +9,8 @@ use Rattle.dsa_descriptor.specs.declared.span.Span.{Span}
 use Rattle.dsa_emission.specs.declared.place.Place.{Place}
 use Rattle.dsa_emission.specs.Emission.{is_batch, batch_count, batched_count, place_of, group_entry, fenced_pieces, group_staged, joined, portal_of, staging_of}
 use Rattle.dsa_operations.specs.declared.operation.Operation.{Operation}
-use Rattle.dsa_plan.specs.Plan.{Group, Plan}
-use Rattle.dsa_plan.specs.Settings.{Limits}
+use Rattle.dsa_settings.specs.Plan.{Group, Plan}
+use Rattle.dsa_settings.specs.Settings.{Limits}
 use Rattle.dsa_prepared.specs.Relocated.{relocated_spelling}
 use Rattle.dsa_prepared.specs.Regions.{relocated, AllPiecesLie, PieceLies}
 use Rattle.dsa_prepared.specs.Submissions.{staged_at}

@@ -13,7 +13,7 @@ use Rattle.dsa_operations.proofs.Answered.{are_operations}
 use Rattle.dsa_emission.specs.declared.place.Place.{Place}
 use Rattle.dsa_emission.specs.Emission.{batched, batched_count, is_batch, place_of}
 use Rattle.dsa_emission.proofs.Places.{batch_yes, batch_no, counts_within, place_of-next, group_read}
-use Rattle.dsa_plan.specs.Plan.{Group, Plan, piece_count, start_of}
+use Rattle.dsa_settings.specs.Plan.{Group, Plan, piece_count, start_of}
 use Rattle.dsa_prepared.specs.declared.entry.Entry.{Entry}
 use Rattle.dsa_prepared.specs.declared.word.Word.TheVariants.{InStaging, Fixed}
 use Rattle.dsa_prepared.specs.Entries.{entry_of, fenced_entries}

@@ -13,9 +13,9 @@ use Rattle.dsa_descriptor.specs.Profile.{IsListed}
 use Rattle.dsa_descriptor.specs.Spans.{ApartFrom, IsAddressable, span}
 use Rattle.dsa_image.specs.Parts.{quotient_up}
 use Rattle.dsa_operations.specs.declared.operation.Operation.TheVariants as operation
-use Rattle.dsa_plan.specs.Plan.{Plan}
-use Rattle.dsa_plan.specs.Settings.{Limits}
-use Rattle.dsa_plan.specs.Emission.{portal_bytes, staging_bytes}
+use Rattle.dsa_settings.specs.Plan.{Plan}
+use Rattle.dsa_settings.specs.Settings.{Limits}
+use Rattle.dsa_emission.specs.Emission.{portal_bytes, staging_bytes}
 use Rattle.dsa_splitter.specs.Operations.{op_runs_down}
 use Rattle.dsa_splitter.specs.Pieces.{piece_at, piece_count, pieces, all_pieces}
 use Rattle.dsa_settings.specs.Staging.{staging_area}
@@ -34,12 +34,11 @@ use Rattle.dsa_prepared.proofs.Listed.{listed_relocates, plans_relocate}
 use Rattle.dsa_prepared.proofs.PiecesLie.{all_join, all_first, pieces_lie}
 use Rattle.dsa_prepared.proofs.ByRegions.{pieces_relocate}
 use Rattle.dsa_prepared.proofs.Submissions.{may_split}
-use Rattle.dsa_prepared.specs.Templates.{Template, template_of}
+use Rattle.dsa_prepared.specs.Templates.{Template, template_of, filled_portal, filled_staging}
 use Rattle.dsa_prepared.specs.Preparing.{AreRegions, IsPreparedOf, relocation}
 use Rattle.dsa_prepared.specs.Sound.{IsSplitInto}
 use Rattle.dsa_prepared.specs.Filling.{HasBases, CanFill, IsPlannedAnew}
 use Rattle.dsa_prepared.specs.Laws.{FilledIsPlanned, PreparedWithoutFences}
-use Rattle.dsa_prepared.specs.Templates.{filled_portal, filled_staging}
 use Rattle.dsa_prepared.proofs.Spans.{bases_are, disjoint, all_fit, all_clear}
 use Rattle.dsa_prepared.proofs.AsOperations.{aligned_of, pieces_of, portal_alike, staging_alike, whole_of}
 use Rattle.dsa_prepared.proofs.Whole.{filled_is_emission, aligned_bases_align}

@@ -15,10 +15,10 @@ use Rattle.dsa_descriptor.specs.Spans.{IsAddressable}
 use Rattle.dsa_operations.specs.declared.operation.Operation.{Operation}
 use Rattle.dsa_operations.specs.declared.operation.Operation.TheVariants as operation
 use Rattle.dsa_operations.specs.Operations.{OperationConflictAt, size_of}
-use Rattle.dsa_plan.specs.Barriers.{WithBarriers}
+use Rattle.dsa_settings.specs.Barriers.{WithBarriers}
 use Rattle.dsa_plan.specs.Chain.{Pairs}
-use Rattle.dsa_plan.specs.Plan.{Plan as GroupPlan}
-use Rattle.dsa_plan.specs.Settings.{Limits, tariff_of}
+use Rattle.dsa_settings.specs.Plan.{Plan as GroupPlan}
+use Rattle.dsa_settings.specs.Settings.{Limits, tariff_of}
 use Rattle.dsa_splitter.specs.Operations.{IsSplittable}
 use Rattle.dsa_splitter.proofs.OnePiece.{short_may_split}
 use Rattle.dsa_splitter.proofs.Walks.{length_all}

@@ -23,7 +23,7 @@ use Rattle.dsa_operations.specs.declared.operation.Operation.TheVariants as oper
 use Rattle.dsa_operations.specs.Data as checksum
 use Rattle.dsa_operations.specs.Data.{seed_spans}
 use Rattle.dsa_operations.specs.Operands.{seed_of}
-use Rattle.dsa_plan.specs.Plan.{Group, Plan, piece_count}
+use Rattle.dsa_settings.specs.Plan.{Group, Plan, piece_count}
 use Rattle.dsa_prepared.specs.Regions.{AllPiecesLie, LiesInOne, PieceLies}
 use Rattle.dsa_prepared.proofs.PiecesLie.{all_join}
 use Rattle.dsa_prepared.specs.declared.entry.Entry.{Entry}

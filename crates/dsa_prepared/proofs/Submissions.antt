@@ -13,8 +13,8 @@ use Rattle.dsa_descriptor.specs.Fields.{Fields}
 use Rattle.dsa_descriptor.specs.Data.{sources, targets, data_of}
 use Rattle.dsa_descriptor.specs.Spans.{InSome, ApartFrom, IsAddressable}
 use Rattle.dsa_ranges.specs.Ranges.{ConflictAt, read_spans, written_spans, Touches}
-use Rattle.dsa_plan.specs.Barriers.{WithBarriers}
-use Rattle.dsa_plan.specs.Settings.{Limits, tariff_of}
+use Rattle.dsa_settings.specs.Barriers.{WithBarriers}
+use Rattle.dsa_settings.specs.Settings.{Limits, tariff_of}
 use Rattle.dsa_settings.proofs.Barriers.{parted_by, by_conflict, by_barrier}
 use Rattle.dsa_splitter.specs.Operations.{IsSplittable, ExpectedFits}
 use Rattle.dsa_splitter.specs.Pieces.{all_pieces, piece_barriers, piece_count, row_span}

@@ -19,7 +19,7 @@ use Rattle.dsa_descriptor.specs.Spelling.{operation_word, owner_word, spelling}
 use Rattle.dsa_emission.specs.declared.place.Place.{Place}
 use Rattle.dsa_descriptor.specs.Fences.{fenced}
 use Rattle.dsa_emission.specs.Emission.{batch_spelling}
-use Rattle.dsa_plan.specs.Plan.{Group}
+use Rattle.dsa_settings.specs.Plan.{Group}
 use Rattle.dsa_operations.specs.declared.checksum.Checksum.{Checksum}
 use Rattle.dsa_operations.specs.declared.checksum_op.ChecksumOp.{ChecksumOp}
 use Rattle.dsa_operations.specs.declared.checksum_op.ChecksumOp.TheVariants.{Crc, CopyCrc}

@@ -5,7 +5,7 @@ use Rattle.std.specs.List.{flat_map}
 use Rattle.dsa_descriptor.specs.declared.op.Op.{Op}
 use Rattle.dsa_descriptor.specs.declared.op.Op.TheVariants.{Move, Fill, Compare, ComparePattern, ApplyDelta, Dualcast}
 use Rattle.dsa_descriptor.specs.declared.span.Span.{Span}
-use Rattle.dsa_plan.specs.Plan.{Group}
+use Rattle.dsa_settings.specs.Plan.{Group}
 use Rattle.dsa_descriptor.specs.Fences.{fenced}
 use Rattle.dsa_emission.specs.declared.place.Place.{Place}
 use Rattle.dsa_operations.specs.declared.checksum_op.ChecksumOp.{ChecksumOp}

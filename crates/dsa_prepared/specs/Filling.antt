@@ -4,7 +4,7 @@ use Rattle.dsa_descriptor.specs.declared.descriptor.Descriptor.{Descriptor}
 use Rattle.dsa_descriptor.specs.declared.span.Span.{Span}
 use Rattle.dsa_descriptor.specs.Descriptors.{fields}
 use Rattle.dsa_descriptor.specs.Spans.{span, Apart, IsAddressable}
-use Rattle.dsa_plan.specs.Settings.{Limits}
+use Rattle.dsa_settings.specs.Settings.{Limits}
 use Rattle.dsa_settings.specs.declared.setting.Setting.TheVariants.{Staging as Area}
 use Rattle.dsa_settings.specs.Outside.{Allows}
 use Rattle.dsa_settings.specs.Staging.{staging_area}

@@ -3,8 +3,8 @@ use Rattle.std.specs.Prelude.{◌≡◌, ℕ, List, length, Ok}
 use Rattle.std.specs.List.{AllByRecursion}
 use Rattle.dsa_descriptor.specs.declared.descriptor.Descriptor.{Descriptor}
 use Rattle.dsa_descriptor.specs.declared.span.Span.{Span}
-use Rattle.dsa_plan.specs.Plan.{Plan}
-use Rattle.dsa_plan.specs.Settings.{Limits}
+use Rattle.dsa_settings.specs.Plan.{Plan}
+use Rattle.dsa_settings.specs.Settings.{Limits}
 use Rattle.dsa_emission.specs.Emission.{portal_of, staging_of}
 use Rattle.dsa_calls.specs.Fenced.{HasNoFences}
 use Rattle.dsa_calls.specs.Lists.{IsListOf}
@@ -15,9 +15,8 @@ use Rattle.dsa_prepared.specs.Relocated.{relocated_spelling}
 use Rattle.dsa_prepared.specs.Regions.{relocated, AllPiecesLie}
 use Rattle.dsa_prepared.specs.Submissions.{staged_at}
 use Rattle.dsa_prepared.specs.Listed.{IsAlignedThere}
-use Rattle.dsa_prepared.specs.Templates.{template_of, filled_portal, filled_staging}
+use Rattle.dsa_prepared.specs.Templates.{template_of, filled_portal, filled_staging, Template}
 use Rattle.dsa_prepared.specs.Preparing.{IsAnyPreparedOf, IsPreparedOf, relocation}
-use Rattle.dsa_prepared.specs.Templates.{Template}
 use Rattle.dsa_prepared.specs.Filling.{HasBases, AllAligned, AllTied, CanFill, IsAnyPlannedAnew, IsPlannedAnew}
 
 -- a filled template has the bytes that submit the same plan of the relocated pieces, whatever the bases are

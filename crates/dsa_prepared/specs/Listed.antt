@@ -10,7 +10,7 @@ use Rattle.dsa_descriptor.specs.Fields.{Fields}
 use Rattle.dsa_descriptor.specs.Lists.{list_spelling}
 use Rattle.dsa_descriptor.specs.Profile.{HasEqualLowBits, IsListed}
 use Rattle.dsa_descriptor.specs.Spans.{IsAddressable}
-use Rattle.dsa_plan.specs.Settings.{Limits}
+use Rattle.dsa_settings.specs.Settings.{Limits}
 use Rattle.dsa_calls.specs.Lists.{IsListOf}
 use Rattle.dsa_calls.specs.Fenced.{HasNoBarriers, IsSubmissionWith, PlansFenced}
 use Rattle.dsa_calls.specs.Planned.{Submission, Plans}

@@ -5,8 +5,8 @@ use Rattle.dsa_descriptor.specs.declared.descriptor.Descriptor.{Descriptor}
 use Rattle.dsa_descriptor.specs.declared.span.Span.{Span}
 use Rattle.dsa_descriptor.specs.Descriptors.{fields}
 use Rattle.dsa_descriptor.specs.Spans.{span, IsAddressable}
-use Rattle.dsa_plan.specs.Settings.{Limits, AreInLimits}
-use Rattle.dsa_plan.specs.Plan.{Plan as GroupPlan}
+use Rattle.dsa_settings.specs.Settings.{Limits, AreInLimits}
+use Rattle.dsa_settings.specs.Plan.{Plan as GroupPlan}
 use Rattle.dsa_descriptor.specs.Fences.{barriers_of, unfenced_list}
 use Rattle.dsa_calls.specs.Fenced.{IsSubmissionWith, PlansFenced}
 use Rattle.dsa_calls.specs.Lists.{IsListOf}

@@ -4,7 +4,7 @@ use Rattle.dsa_descriptor.specs.declared.span.Span.{Span}
 use Rattle.dsa_descriptor.specs.Fields.{Fields}
 use Rattle.dsa_descriptor.specs.Spans.{Meets}
 use Rattle.dsa_ranges.specs.Ranges.{Conflicts, ConflictAt}
-use Rattle.dsa_plan.specs.Plan.{Tariff, Plan}
+use Rattle.dsa_settings.specs.Plan.{Tariff, Plan}
 use Rattle.dsa_plan.specs.Chain.{Pairs}
 use Rattle.dsa_search.specs.Chosen.{IsChosen}
 use Rattle.dsa_prepared.specs.Relocated.{relocated_fields, relocated_span, IsOneToOne, KeepsOffsets}

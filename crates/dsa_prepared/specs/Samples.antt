@@ -3,8 +3,8 @@ use Rattle.std.specs.Prelude.{ℕ, List, [], ◌∷◌}
 use Rattle.dsa_descriptor.specs.declared.op.Op.TheVariants.{Move}
 use Rattle.dsa_descriptor.specs.Fields.{Fields}
 use Rattle.dsa_image.specs.Samples.{sample}
-use Rattle.dsa_plan.specs.Settings.{Limits, limits}
-use Rattle.dsa_plan.specs.Settings.BatchPrices.{SamePrice}
+use Rattle.dsa_settings.specs.Settings.{Limits, limits}
+use Rattle.dsa_settings.specs.Settings.BatchPrices.{SamePrice}
 use Rattle.dsa_prepared.specs.Regions.{Region}
 
 -- the source, the destination and the records; the source goes to after the destination, and to an odd address

@@ -5,8 +5,8 @@ use Rattle.dsa_descriptor.specs.declared.descriptor.Descriptor.{Descriptor}
 use Rattle.dsa_descriptor.specs.declared.span.Span.{Span}
 use Rattle.dsa_descriptor.specs.Descriptors.{fields}
 use Rattle.dsa_descriptor.specs.Pieces.{most_pieces}
-use Rattle.dsa_plan.specs.Plan.{Group, Plan, piece_count}
-use Rattle.dsa_plan.specs.Settings.{Limits}
+use Rattle.dsa_settings.specs.Plan.{Group, Plan, piece_count}
+use Rattle.dsa_settings.specs.Settings.{Limits}
 use Rattle.dsa_splitter.specs.Pieces.{all_pieces}
 use Rattle.dsa_splitter.specs.Rules.{IsSplit}
 use Rattle.dsa_operations.specs.declared.operation.Operation.{Operation}

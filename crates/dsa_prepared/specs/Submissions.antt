@@ -5,8 +5,8 @@ use Rattle.dsa_descriptor.specs.declared.descriptor.Descriptor.{Descriptor}
 use Rattle.dsa_descriptor.specs.Descriptors.{fields}
 use Rattle.dsa_descriptor.specs.Fields.{Fields}
 use Rattle.dsa_descriptor.specs.Spans.{ApartFrom, IsAddressable}
-use Rattle.dsa_plan.specs.Settings.{Limits}
-use Rattle.dsa_plan.specs.Emission.{portal_bytes, staging_bytes}
+use Rattle.dsa_settings.specs.Settings.{Limits}
+use Rattle.dsa_emission.specs.Emission.{portal_bytes, staging_bytes}
 use Rattle.dsa_settings.specs.Staging.{staging_area}
 use Rattle.dsa_splitter.specs.Rules.{piece_total}
 use Rattle.dsa_calls.specs.Fenced.{IsSubmissionWith}

@@ -6,8 +6,8 @@ use Rattle.dsa_descriptor.specs.declared.op.Op.TheVariants.{Move, Fill, Compare,
 use Rattle.dsa_descriptor.specs.declared.span.Span.{Span}
 use Rattle.dsa_operations.specs.declared.operation.Operation.{Operation}
 use Rattle.dsa_operations.specs.declared.operation.Operation.TheVariants as operation
-use Rattle.dsa_plan.specs.Plan.{Group, Plan}
-use Rattle.dsa_plan.specs.Emission.{is_batch, batch_count, batched_count, place_of}
+use Rattle.dsa_settings.specs.Plan.{Group, Plan}
+use Rattle.dsa_emission.specs.Emission.{is_batch, batch_count, batched_count, place_of}
 use Rattle.dsa_emission.specs.declared.place.Place.{Place}
 use Rattle.dsa_prepared.specs.declared.entry.Entry.{Entry}
 use Rattle.dsa_prepared.specs.declared.tie.Tie.{Tie}

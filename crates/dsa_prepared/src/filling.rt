@@ -4,7 +4,7 @@ ghost use Rattle.std.specs.Prelude.{◌≡◌, ◌⊎◌, ℕ, ◌+◌, ◌*◌,
 ghost use Rattle.dsa_descriptor.specs.declared.descriptor.Descriptor.{Descriptor};
 ghost use Rattle.dsa_descriptor.specs.Spans.{Apart};
 ghost use Rattle.dsa_operations.specs.declared.operation.Operation.{Operation};
-ghost use Rattle.dsa_plan.specs.Settings.{Limits};
+ghost use Rattle.dsa_settings.specs.Settings.{Limits};
 ghost use Rattle.dsa_settings.specs.Staging.{staging_area};
 ghost use Rattle.dsa_prepared.specs.declared.fault.FillFault.{FillFault};
 ghost use Rattle.dsa_prepared.specs.Rows.{AreOrigins, ArePrepared, HasKinds, HaveHeader, entry_in, header_word, region_in, row_at, template_in, tie_in, unit_in};

@@ -2,7 +2,7 @@
 
 ghost use Rattle.std.specs.Prelude.{◌≡◌, ◌≤◌, ◌∷◌, [], take, drop, length, IfOk, MatchOption};
 ghost use Rattle.dsa_descriptor.specs.Pieces.{most_pieces};
-ghost use Rattle.dsa_plan.specs.Plan.{piece_count};
+ghost use Rattle.dsa_settings.specs.Plan.{piece_count};
 ghost use Rattle.dsa_operations.specs.Operands.{seed_of};
 ghost use Rattle.dsa_prepared.specs.Preparing.{AreRegions};
 ghost use Rattle.dsa_prepared.specs.Regions.{AllPiecesLie};

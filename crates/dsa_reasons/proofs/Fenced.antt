@@ -5,9 +5,9 @@ use Rattle.std.proofs.lemmas.List.{drop_more, map-append}
 use Rattle.std.proofs.lemmas.Option.{slice_get-get_or}
 use Rattle.std.proofs.lemmas.List.Elements.{All-append, All-cons, All-nil}
 use Rattle.dsa_descriptor.specs.declared.span.Span.{Span}
-use Rattle.dsa_plan.specs.Plan.{Group, Plan}
-use Rattle.dsa_plan.specs.Barriers.{IsBarrier}
-use Rattle.dsa_plan.specs.Legal.{IsFenced}
+use Rattle.dsa_settings.specs.Plan.{Group, Plan}
+use Rattle.dsa_settings.specs.Barriers.{IsBarrier}
+use Rattle.dsa_settings.specs.Legal.{IsFenced}
 use Rattle.dsa_reasons.specs.declared.fences.Fence.{Fence}
 use Rattle.dsa_reasons.specs.declared.fences.Detail.{Detail}
 use Rattle.dsa_reasons.specs.Fences.{AddsExplained, HasReasons, IsExplained, fence_places, fenced_in, fenced_pieces}

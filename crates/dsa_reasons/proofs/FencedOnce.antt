@@ -6,8 +6,8 @@ use Rattle.std.proofs.lemmas.Option.{same_Some}
 use Rattle.std.proofs.lemmas.List.Elements.{All-cons, All-nil, Contains-append_cases, Contains-append_left, Contains-append_right, Contains-push}
 use Rattle.std.proofs.lemmas.List.Kept.{AllPairs-cons}
 use Rattle.std.proofs.lemmas.List.Sums.{sum_by-cons}
-use Rattle.dsa_plan.specs.Plan.{Group, Plan, start_of}
-use Rattle.dsa_plan.specs.Legal.{IsFenced}
+use Rattle.dsa_settings.specs.Plan.{Group, Plan, start_of}
+use Rattle.dsa_settings.specs.Legal.{IsFenced}
 use Rattle.dsa_reasons.specs.Fences.{fenced_in, fenced_pieces}
 use Rattle.dsa_reasons.specs.Laws.{IsFencedIn, EachFenceOnce}
 

@@ -7,8 +7,8 @@ use Rattle.std.proofs.lemmas.List.Quantifiers.{Any-push, all_pairs_push}
 use Rattle.std.proofs.lemmas.Grind.{common_steps}
 use Rattle.dsa_descriptor.specs.declared.span.Span.{Span}
 use Rattle.dsa_ranges.specs.Pieces.{PieceConflictAt}
-use Rattle.dsa_plan.specs.Plan.{Group}
-use Rattle.dsa_plan.specs.Legal.{IsFenced}
+use Rattle.dsa_settings.specs.Plan.{Group}
+use Rattle.dsa_settings.specs.Legal.{IsFenced}
 use Rattle.dsa_reasons.specs.declared.reason.Reason.{Reason}
 use Rattle.dsa_reasons.specs.Reasons.{IsHazardOf, IsReached, IsOpen, IsReason, ComesBefore, IsOfPair, AreReasonsFor, IsSoFar, IsFoundSoFar, HasReasonsSoFar}
 use Rattle.dsa_reasons.proofs.Reached.{hazard_conflicts, needs_reached}

@@ -12,8 +12,8 @@ use Rattle.dsa_settings.specs.Epochs.{cuts, cuts_of_group}
 use Rattle.dsa_settings.proofs.Epochs.{cut_at}
 use Rattle.dsa_settings.proofs.Numbering.{cuts_length}
 use Rattle.dsa_settings.proofs.Plans.{start_of-next}
-use Rattle.dsa_plan.specs.Legal.{IsFenced}
-use Rattle.dsa_plan.specs.Plan.{Group, Plan, piece_count, start_of}
+use Rattle.dsa_settings.specs.Legal.{IsFenced}
+use Rattle.dsa_settings.specs.Plan.{Group, Plan, piece_count, start_of}
 use Rattle.dsa_reasons.specs.Fences.{HasReasons}
 use Rattle.dsa_reasons.specs.Laws.{EachCutOnce, FencesAreCuts, IsFencedIn}
 use Rattle.dsa_reasons.specs.OneGroup.{one_group}

@@ -9,8 +9,8 @@ use Rattle.dsa_ranges.specs.declared.hazards.Hazard.{Hazard}
 use Rattle.dsa_ranges.specs.Ranges.{SpansConflict}
 use Rattle.dsa_ranges.specs.Hazards.{IsHazard}
 use Rattle.dsa_ranges.specs.Pieces.{PieceConflictAt}
-use Rattle.dsa_plan.specs.Plan.{Group}
-use Rattle.dsa_plan.specs.Legal.{IsFenced}
+use Rattle.dsa_settings.specs.Plan.{Group}
+use Rattle.dsa_settings.specs.Legal.{IsFenced}
 use Rattle.dsa_reasons.specs.Reasons.{NeedsFence, IsHazardOf, IsReached}
 
 module _ {P : Type 0} (reads writes : P → List Span) (ps : List P) (i j : ℕ) (p q : P) (r w r' w' : List Span) where

@@ -1,9 +1,9 @@
 -- The fences of a plan, and what each is for.
 use Rattle.std.specs.Prelude.{◌≡◌, ◌↔◌, ℕ, suc, ◌+◌, ◌-◌, All, Bool, IsTrue, List, [], ◌∷◌, ◌++◌, length, map, slice_get, take, Some, if◌then◌else◌}
 use Rattle.dsa_descriptor.specs.declared.span.Span.{Span}
-use Rattle.dsa_plan.specs.Plan.{Group, Plan, start_of}
-use Rattle.dsa_plan.specs.Barriers.{IsBarrier}
-use Rattle.dsa_plan.specs.Legal.{IsFenced}
+use Rattle.dsa_settings.specs.Plan.{Group, Plan, start_of}
+use Rattle.dsa_settings.specs.Barriers.{IsBarrier}
+use Rattle.dsa_settings.specs.Legal.{IsFenced}
 use Rattle.dsa_reasons.specs.declared.reason.Reason.{Reason}
 use Rattle.dsa_reasons.specs.Reasons.{AreReasonsFor}
 use Rattle.dsa_reasons.specs.declared.fences.Fence.{Fence}

@@ -2,9 +2,9 @@
 use Rattle.std.specs.Prelude.{ℕ, ◌≡◌, ◌<◌, ◌↔◌, AllPairs, Bool, true, Contains, List, length, slice_get, Some}
 use Rattle.dsa_descriptor.specs.declared.span.Span.{Span}
 use Rattle.dsa_settings.specs.Epochs.{cuts}
-use Rattle.dsa_plan.specs.Barriers.{WithBarriers}
-use Rattle.dsa_plan.specs.Plan.{Group, Plan, start_of}
-use Rattle.dsa_plan.specs.Legal.{IsFenced, IsLegal}
+use Rattle.dsa_settings.specs.Barriers.{WithBarriers}
+use Rattle.dsa_settings.specs.Plan.{Group, Plan, start_of}
+use Rattle.dsa_settings.specs.Legal.{IsFenced, IsLegal}
 use Rattle.dsa_reasons.specs.declared.fences.Detail.{Detail}
 use Rattle.dsa_reasons.specs.declared.fences.Fence.{Fence}
 use Rattle.dsa_reasons.specs.Fences.{IsExplained, fenced_pieces}

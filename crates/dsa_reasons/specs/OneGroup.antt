@@ -5,7 +5,7 @@ use Rattle.std.specs.Prelude.{Bool, List, [], ◌∷◌}
 use Rattle.dsa_descriptor.specs.Fences.{after_first}
 use Rattle.dsa_descriptor.specs.declared.span.Span.{Span}
 use Rattle.dsa_settings.specs.Epochs.{cuts}
-use Rattle.dsa_plan.specs.Plan.{Plan}
+use Rattle.dsa_settings.specs.Plan.{Plan}
 use Rattle.dsa_reasons.specs.declared.fences.Fence.{Fence}
 use Rattle.dsa_reasons.specs.declared.fences.Detail.TheVariants.{First}
 use Rattle.dsa_reasons.specs.Fences.{AreFencesOf}

@@ -2,8 +2,8 @@
 use Rattle.std.specs.Prelude.{ℕ, ◌≡◌, ◌+◌, ◌<◌, ◌≤◌, ◌⊎◌, List, All, AllPairs, Any, length, slice_get, Some}
 use Rattle.dsa_descriptor.specs.declared.span.Span.{Span}
 use Rattle.dsa_ranges.specs.Pieces.{PieceConflictAt}
-use Rattle.dsa_plan.specs.Plan.{Group}
-use Rattle.dsa_plan.specs.Legal.{IsFenced, ConflictsWithin}
+use Rattle.dsa_settings.specs.Plan.{Group}
+use Rattle.dsa_settings.specs.Legal.{IsFenced, ConflictsWithin}
 use Rattle.dsa_ranges.specs.declared.hazards.Hazard.{Hazard}
 use Rattle.dsa_ranges.specs.Hazards.{IsHazard}
 use Rattle.dsa_reasons.specs.declared.reason.Reason.{Reason}

@@ -2,9 +2,9 @@
 
 ghost use Rattle.std.specs.Prelude.{◌≡◌, ◌+◌, ◌≤◌, ◌++◌, ◌↔◌, IfOk, IsTrue, OnOk, length};
 ghost use Rattle.dsa_descriptor.specs.Pieces.{most_pieces};
-ghost use Rattle.dsa_plan.specs.Barriers.{IsBarrier};
-ghost use Rattle.dsa_plan.specs.Legal.{IsFenced};
-ghost use Rattle.dsa_plan.specs.Plan.{piece_count};
+ghost use Rattle.dsa_settings.specs.Barriers.{IsBarrier};
+ghost use Rattle.dsa_settings.specs.Legal.{IsFenced};
+ghost use Rattle.dsa_settings.specs.Plan.{piece_count};
 ghost use Rattle.dsa_reasons.specs.Fences.{AddsExplained, AreFencesOf, HasReasons, fence_places, fenced_in, named_of};
 
 use crate::reason::{Reason, reasons_of};

@@ -4,7 +4,7 @@
 ghost use Rattle.std.specs.Prelude.{◌≡◌, ◌≤◌, IfOk, length};
 ghost use Rattle.dsa_descriptor.specs.Fences.{after_first};
 ghost use Rattle.dsa_descriptor.specs.Pieces.{most_pieces};
-ghost use Rattle.dsa_plan.specs.Plan.{piece_count};
+ghost use Rattle.dsa_settings.specs.Plan.{piece_count};
 ghost use Rattle.dsa_reasons.specs.OneGroup.{AreCutReasons, one_group};
 
 use crate::fences::{Detail, Fence, fences_of};

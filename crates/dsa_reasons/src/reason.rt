@@ -2,7 +2,7 @@
 
 ghost use Rattle.std.specs.Prelude.{◌≡◌, suc, ◌+◌, ◌^◌, ◌<◌, ◌≤◌, length, IfOk, OnOk};
 ghost use Rattle.dsa_descriptor.specs.Pieces.{most_pieces};
-ghost use Rattle.dsa_plan.specs.Legal.{IsFenced};
+ghost use Rattle.dsa_settings.specs.Legal.{IsFenced};
 ghost use Rattle.dsa_reasons.specs.Reasons.{AreReasonsFor, HasReasonsSoFar, IsOpen};
 
 use dsa_ranges::{Hazard, Touching, find_hazard};

@@ -6,8 +6,8 @@ use Rattle.dsa_descriptor.specs.Fields.{Fields}
 use Rattle.dsa_ranges.specs.Pieces.{DescriptorConflictAt}
 use Rattle.dsa_ranges.specs.Ranges.{ConflictAt}
 use Rattle.dsa_plan.specs.Certificate.{Contents}
-use Rattle.dsa_plan.specs.Plan.{Plan, Tariff}
-use Rattle.dsa_plan.specs.Settings.{Limits, tariff_of, version_of}
+use Rattle.dsa_settings.specs.Plan.{Plan, Tariff}
+use Rattle.dsa_settings.specs.Settings.{Limits, tariff_of, version_of}
 use Rattle.dsa_checker.specs.Checked.{HasLengths, IsFirstCheckFault}
 use Rattle.dsa_checker.specs.declared.fault.CheckFault.{CheckFault}
 use Rattle.dsa_checker.specs.declared.fault.CheckFault.TheVariants.{Plan as BadPlan, Version, Lengths, Pair, Price, Total}

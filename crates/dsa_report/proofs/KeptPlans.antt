@@ -10,9 +10,9 @@ use Rattle.serde_json.specs.Data.{Data, null, boolean, number, string, array, ob
 use Rattle.serde_json.specs.View.{items_of}
 use Rattle.dsa_settings.specs.declared.legal.LegalFault.{LegalFault}
 use Rattle.dsa_settings.specs.declared.legal.LegalFault.TheVariants.{Count, GroupSize, FirstFence, Unfenced}
-use Rattle.dsa_plan.specs.Plan.{Group, Plan, piece_count}
-use Rattle.dsa_plan.specs.Legal.{IsLegal}
-use Rattle.dsa_plan.specs.LegalFaults.{IsFirstLegalFault}
+use Rattle.dsa_settings.specs.Plan.{Group, Plan, piece_count}
+use Rattle.dsa_settings.specs.Legal.{IsLegal}
+use Rattle.dsa_settings.specs.LegalFaults.{IsFirstLegalFault}
 use Rattle.dsa_tokens.specs.Said.{AddsArray}
 use Rattle.dsa_tokens.specs.Spelled.{Reads}
 use Rattle.dsa_tokens.proofs.Items.{after, array_spelled, no_array_spelled}

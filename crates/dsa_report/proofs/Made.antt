@@ -7,7 +7,7 @@ use Rattle.std.proofs.lemmas.Option.{same_Some}
 use Rattle.serde_json.specs.Data.{Data}
 use Rattle.hex.specs.Hex.{decode_of}
 use Rattle.dsa_plan.specs.Certificate.{contents}
-use Rattle.dsa_plan.specs.Settings.{Limits}
+use Rattle.dsa_settings.specs.Settings.{Limits}
 use Rattle.dsa_plan.specs.declared.certificate.Certificate.{Certificate}
 use Rattle.dsa_cert.specs.Document.{Documents, ReadsDocument, kept_contents}
 use Rattle.dsa_core.specs.declared.event.Event.{Event}

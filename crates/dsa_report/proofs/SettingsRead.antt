@@ -4,8 +4,8 @@ use Rattle.std.proofs.lemmas.List.{take_all}
 use Rattle.std.specs.List.Sorted.{IsStrictlySortedBy}
 use Rattle.serde_json.specs.Data.{Data, string, object, Members}
 use Rattle.serde_json.specs.Find.{get_member}
-use Rattle.dsa_plan.specs.Settings.BatchPrices.{SamePrice, BySize}
-use Rattle.dsa_plan.specs.Settings.{AreBatchPrices, BatchPrices, Limits}
+use Rattle.dsa_settings.specs.Settings.BatchPrices.{SamePrice, BySize}
+use Rattle.dsa_settings.specs.Settings.{AreBatchPrices, BatchPrices, Limits}
 use Rattle.dsa_calls.specs.declared.fault.PlanFault.{PlanFault}
 use Rattle.dsa_tokens.specs.Said.{IsArrayUpTo, slot_option}
 use Rattle.dsa_tokens.specs.Spelled.{AreInOrder, HasOthers, Reads, whole}

@@ -3,11 +3,10 @@ use Rattle.std.specs.Prelude.{◌≡◌, ℕ, Bool, true, false, List, [], ◌�
 use Rattle.std.specs.Result.{result_map_both}
 use Rattle.serde_json.specs.Data.{Data, string}
 use Rattle.hex.specs.Hex.{decode_of, encode_lower}
-use Rattle.dsa_plan.specs.Settings.{Limits}
+use Rattle.dsa_settings.specs.Settings.{Limits}
 use Rattle.dsa_image.specs.Memory.{Memory}
 use Rattle.dsa_core.specs.declared.event.Event.{Event}
-use Rattle.dsa_plan.specs.Certificate.{contents}
-use Rattle.dsa_plan.specs.Certificate.{Contents}
+use Rattle.dsa_plan.specs.Certificate.{contents, Contents}
 use Rattle.dsa_cert.specs.Document.{Documents, document, kept_contents}
 use Rattle.dsa_tokens.specs.Spelled.{whole, array_of, object_of}
 use Rattle.dsa_calls.specs.declared.fault.PlanFault.{PlanFault}

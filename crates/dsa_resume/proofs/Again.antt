@@ -12,8 +12,8 @@ use Rattle.dsa_descriptor.specs.Fields.{Fields}
 use Rattle.dsa_descriptor.specs.Spans.{InSpan, span}
 use Rattle.dsa_ranges.specs.Ranges.{Touches}
 use Rattle.dsa_settings.specs.Barriers.{IsBarrier}
-use Rattle.dsa_plan.specs.Emission.{staging_span}
-use Rattle.dsa_plan.specs.Settings.{Limits}
+use Rattle.dsa_emission.specs.Emission.{staging_span}
+use Rattle.dsa_settings.specs.Settings.{Limits}
 use Rattle.dsa_splitter.specs.Rules.{AreWhole, IsClear, IsSplit}
 use Rattle.dsa_splitter.proofs.AsTheyStand.{whole_split}
 use Rattle.dsa_splitter.proofs.OneFault.{split_no_fault}

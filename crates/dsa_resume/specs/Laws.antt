@@ -9,7 +9,7 @@ use Rattle.dsa_settings.specs.Barriers.{WithBarriers}
 use Rattle.dsa_settings.specs.Plan.{Plan}
 use Rattle.dsa_settings.specs.Legal.{IsLegal}
 use Rattle.dsa_settings.specs.Epochs.{epoch_of}
-use Rattle.dsa_plan.specs.Settings.{Limits}
+use Rattle.dsa_settings.specs.Settings.{Limits}
 use Rattle.dsa_resume.specs.declared.left.LeftOrder.{LeftOrder}
 use Rattle.dsa_resume.specs.declared.left.LeftOrder.TheVariants.{AsListed, FailedFirst}
 use Rattle.dsa_resume.specs.declared.rest.LeftOut.{LeftOut}

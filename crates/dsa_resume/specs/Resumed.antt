@@ -8,7 +8,7 @@ use Rattle.dsa_descriptor.specs.Fields.{Fields}
 use Rattle.dsa_descriptor.specs.Lists.{HaveOneOwner}
 use Rattle.dsa_descriptor.specs.declared.span.Span.{Span}
 use Rattle.dsa_ranges.specs.Pieces.{writes_of}
-use Rattle.dsa_plan.specs.Settings.{Limits}
+use Rattle.dsa_settings.specs.Settings.{Limits}
 use Rattle.dsa_splitter.specs.Pieces.{all_pieces, piece_barriers}
 use Rattle.dsa_splitter.specs.Rules.{AreWhole, IsSplit}
 use Rattle.dsa_calls.specs.declared.fault.PlanFault.{PlanFault}

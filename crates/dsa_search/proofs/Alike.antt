@@ -1,8 +1,8 @@
 -- Relations that ask for the same fences have the same chosen plan.
 use Rattle.std.proofs.Common.{ℕ, ◌≡◌, ◌+◌, ◌≤◌, inl, inr, min, Bool, List, Option, length, Some, None, subst, arith}
-use Rattle.dsa_plan.specs.Plan.{Tariff, Group, Plan}
-use Rattle.dsa_plan.specs.Legal.{ConflictsWithin, IsLegalGroup, IsLegal, IsLeastCost, IsLeastGroupCost}
-use Rattle.dsa_plan.specs.Barriers.{WithBarriers}
+use Rattle.dsa_settings.specs.Plan.{Tariff, Group, Plan}
+use Rattle.dsa_settings.specs.Legal.{ConflictsWithin, IsLegalGroup, IsLegal, IsLeastCost, IsLeastGroupCost}
+use Rattle.dsa_settings.specs.Barriers.{WithBarriers}
 use Rattle.dsa_plan.specs.Chain.{Pairs, IsPairOf, HasPairs}
 use Rattle.dsa_settings.proofs.Barriers.{parted_by, by_conflict, by_barrier}
 use Rattle.dsa_settings.proofs.Plans.{each_group, group_of_each, EachGroup-weaker}

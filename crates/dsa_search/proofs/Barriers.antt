@@ -3,7 +3,7 @@ use Rattle.std.proofs.Common.{ℕ, ◌≡◌, ◌+◌, ◌-◌, ◌<◌, ◌⊎�
 use Rattle.std.proofs.lemmas.Bool.{cases_lt}
 use Rattle.std.proofs.lemmas.Option.{same_Some, slice_get_within}
 use Rattle.dsa_conflicts.specs.Last.{IsBack, IsLastBy, HasLastsBy}
-use Rattle.dsa_plan.specs.Barriers.{WithBarriers}
+use Rattle.dsa_settings.specs.Barriers.{WithBarriers}
 use Rattle.dsa_settings.proofs.Barriers.{parted_by, by_conflict, by_barrier}
 use Rattle.dsa_search.specs.Lasts.{BeginsAfterBarrier, AddsBarriers}
 

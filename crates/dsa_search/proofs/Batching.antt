@@ -5,8 +5,8 @@ use Rattle.std.proofs.lemmas.Bool.{cases_lt, cases_eq}
 use Rattle.std.proofs.Math.Nat.{mul-le-mul_left, mul-le-mul_right}
 use Rattle.std.proofs.lemmas.List.{length-replicate, get_or-replicate}
 use Rattle.std.proofs.lemmas.Option.{none-some, slice_get_within, get_or_from_slice_get}
-use Rattle.dsa_plan.specs.Plan.{Tariff, Group, Plan, price_of}
-use Rattle.dsa_plan.specs.Settings.{greatest_price}
+use Rattle.dsa_settings.specs.Plan.{Tariff, Group, Plan, price_of}
+use Rattle.dsa_settings.specs.Settings.{greatest_price}
 use Rattle.dsa_plan.specs.Chain.{Pairs, GoForward, LeadsTo, HasCountBelow, IsPairOf}
 use Rattle.dsa_plan.proofs.Fences.{price_of-batch}
 use Rattle.dsa_search.specs.Entries.{IsChainCost, MakesEntry, AreEntries, IsReadPlan}

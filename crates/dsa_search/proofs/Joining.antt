@@ -4,9 +4,9 @@ use Rattle.std.specs.Prelude.{None, slice_get, slice_index_or}
 use Rattle.std.proofs.lemmas.Bool.{cases_lt, cases_eq}
 use Rattle.std.proofs.lemmas.Option.{slice_get_within, slice_get-get_or}
 use Rattle.std.proofs.Math.Nat.{mul-le-mul_left, mul-le-mul_right}
-use Rattle.dsa_plan.specs.Plan.{Tariff, Group, price_of}
-use Rattle.dsa_plan.specs.Settings.{greatest_price}
-use Rattle.dsa_plan.specs.Legal.{ConflictsWithin}
+use Rattle.dsa_settings.specs.Plan.{Tariff, Group, price_of}
+use Rattle.dsa_settings.specs.Settings.{greatest_price}
+use Rattle.dsa_settings.specs.Legal.{ConflictsWithin}
 use Rattle.dsa_plan.specs.Chain.{Pairs, GoForward, LeadsTo, Reaches, HasCountBelow, HasChainFences, HasPairs}
 use Rattle.dsa_plan.proofs.Chains.{Reaches-same, HasCountBelow-same, HasCountBelow-some, IsLastBelow-start, count_below_all}
 use Rattle.dsa_plan.proofs.Fences.{price_of-batch}

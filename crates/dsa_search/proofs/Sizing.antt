@@ -4,14 +4,13 @@ use Rattle.std.proofs.lemmas.Bool.{cases_lt, cases_eq}
 use Rattle.dsa_plan.specs.Chain.{Pairs, GoForward, LeadsTo, IsLastBelow, HasCountBelow}
 use Rattle.dsa_plan.proofs.Chains.{LeadsTo-same}
 use Rattle.std.proofs.Math.Nat.{mul-le-mul_left}
-use Rattle.dsa_plan.specs.Plan.{Tariff, price_of}
+use Rattle.dsa_settings.specs.Plan.{Tariff, price_of}
 use Rattle.dsa_plan.proofs.Fences.{price_of-batch}
-use Rattle.dsa_plan.specs.Settings.{ArePrices, greatest_price}
+use Rattle.dsa_settings.specs.Settings.{ArePrices, greatest_price, Limits, batch_price, sized_tariff, tariff_of}
 use Rattle.dsa_search.specs.Entries.{IsChainCost, MakesEntry}
 use Rattle.dsa_search.specs.Filled.{HasOffers, unreached}
 use Rattle.dsa_search.proofs.Filling.{offers_alike, offers_each}
 use Rattle.dsa_plan.proofs.Joined.{last_fits, last_joined, last_led, count_one_more, count_none}
-use Rattle.dsa_plan.specs.Settings.{Limits, batch_price, sized_tariff, tariff_of}
 use Rattle.dsa_search.specs.Sized.{past_block, HasRows, IsSheetOf}
 
 pub past_block_later : (x : ℕ) → (x < past_block x) × (past_block x ≤ x + 64)

@@ -1,6 +1,6 @@
 -- Lists that fit one batch: their costs without a search. For private clauses.
 use Rattle.std.specs.Prelude.{ℕ, ◌≡◌, ◌+◌, ◌*◌, ◌<◌, ◌≤◌, min, List, length, slice_index}
-use Rattle.dsa_plan.specs.Plan.{Tariff}
+use Rattle.dsa_settings.specs.Plan.{Tariff}
 use Rattle.dsa_plan.specs.Chain.{Pairs, LeadsTo, HasCountBelow}
 
 -- all batches cost the same, and a batch of n pieces costs less than these pieces one by one, but more than nothing

@@ -2,7 +2,7 @@
 use Rattle.std.specs.Prelude.{ℕ, ◌≡◌, ◌+◌, ◌-◌, ◌*◌, ◌/◌, ◌<◌, ◌≤◌, List, length, slice_index}
 use Rattle.dsa_descriptor.specs.Pieces.{most_pieces}
 use Rattle.dsa_plan.specs.Chain.{Pairs, GoForward, IsLastBelow, HasCountBelow}
-use Rattle.dsa_plan.specs.Settings.{Limits, ArePrices, batch_price, greatest_price}
+use Rattle.dsa_settings.specs.Settings.{Limits, ArePrices, batch_price, greatest_price}
 
 -- the pieces are divided into blocks of 64: the first piece past the block of x
 unfoldable pub past_block : ℕ → ℕ

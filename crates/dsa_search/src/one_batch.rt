@@ -1,7 +1,7 @@
 //! Lists that fit one batch: their costs without a search.
 
 ghost use Rattle.std.specs.Prelude.{◌≡◌, ℕ, ◌+◌, ◌-◌, ◌<◌, ◌≤◌, List, [], ◌∷◌, replicate, false, length, slice_index, IsTrue, IfOk};
-ghost use Rattle.dsa_plan.specs.Settings.{tariff_of, greatest_price};
+ghost use Rattle.dsa_settings.specs.Settings.{tariff_of, greatest_price};
 ghost use Rattle.dsa_search.specs.Lasts.{IsLastOf};
 ghost use Rattle.dsa_plan.specs.Chain.{GoForward};
 ghost use Rattle.dsa_search.specs.Entries.{IsReadPlan};

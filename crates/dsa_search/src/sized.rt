@@ -4,7 +4,7 @@ ghost use Rattle.std.specs.Prelude.{◌≡◌, ◌⊎◌, ℕ, ◌+◌, ◌-◌,
 ghost use Rattle.dsa_descriptor.specs.Pieces.{most_pieces};
 ghost use Rattle.dsa_plan.specs.Chain.{GoForward, IsLastBelow, Reaches};
 ghost use Rattle.dsa_search.specs.Filled.{HasOffers, IsFilled, past_reach, unreached};
-ghost use Rattle.dsa_plan.specs.Settings.{ArePrices, greatest_price, sized_tariff};
+ghost use Rattle.dsa_settings.specs.Settings.{ArePrices, greatest_price, sized_tariff};
 ghost use Rattle.dsa_search.specs.Sized.{HasRows, IsSheet, past_block};
 
 use crate::costs::{UNREACHED, lower};

@@ -3,7 +3,7 @@ use Rattle.std.specs.Prelude.{◌≡◌, ℕ, Bool, true, false, List, [], ◌++
 use Rattle.clap.specs.declared.parser.matches.ArgMatches.{ArgMatches}
 use Rattle.dsa_sentences.specs.declared.causes.TextCause.TheVariants.{Options}
 use Rattle.dsa_sentences.specs.Endings.{ending_of}
-use Rattle.dsa_plan.specs.Settings.{Limits}
+use Rattle.dsa_settings.specs.Settings.{Limits}
 use Rattle.dsa_explain.specs.declared.picture.PieceRange.{PieceRange}
 use Rattle.dsa_calls.specs.declared.fault.PlanFault.TheVariants.{Hex, Settings as Outside}
 use Rattle.dsa_forms.specs.declared.kinds.InputKind.{InputKind}

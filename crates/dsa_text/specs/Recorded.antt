@@ -1,6 +1,6 @@
 -- What explaining a recording answers (this project's choice).
 use Rattle.std.specs.Prelude.{◌≡◌, ◌≢◌, ℕ, false, List, string_bytes}
-use Rattle.dsa_plan.specs.Settings.{Limits}
+use Rattle.dsa_settings.specs.Settings.{Limits}
 use Rattle.dsa_recording.specs.declared.answer.AuditAnswer.{AuditAnswer}
 use Rattle.dsa_recording.specs.declared.answer.AuditFormat.TheVariants.{List as Listed}
 use Rattle.dsa_recording.specs.declared.answer.AuditOptions.{AuditOptions}

@@ -5,7 +5,7 @@ use Rattle.dsa_operations.specs.declared.operation.Operation.{Operation}
 use Rattle.dsa_operations.specs.OperationFields.{operation_fields}
 use Rattle.dsa_operations.specs.Operations.{spelling_of}
 use Rattle.dsa_lists.specs.Resuming.{ResumesRead}
-use Rattle.dsa_plan.specs.Settings.{Limits}
+use Rattle.dsa_settings.specs.Settings.{Limits}
 use Rattle.dsa_lines.specs.declared.fault.TextFault.{TextFault}
 use Rattle.dsa_lines.specs.Assembled.{Assembles}
 use Rattle.dsa_lines.specs.Barriers.{barriers_of, marked_text}

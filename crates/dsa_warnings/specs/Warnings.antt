@@ -3,7 +3,7 @@ use Rattle.std.specs.Prelude.{◌≡◌, ℕ, suc, ◌+◌, ◌<◌, ◌==◌, �
 use Rattle.dsa_descriptor.specs.declared.descriptor.Descriptor.{Descriptor}
 use Rattle.dsa_descriptor.specs.declared.span.Span.{Span}
 use Rattle.dsa_settings.specs.Epochs.{epoch_of}
-use Rattle.dsa_plan.specs.Plan.{Plan, piece_count}
+use Rattle.dsa_settings.specs.Plan.{Plan, piece_count}
 use Rattle.dsa_resume.specs.Shared.{HaveLastShared}
 use Rattle.dsa_warnings.specs.declared.concerns.Concern.{Concern}
 use Rattle.dsa_warnings.specs.declared.concerns.Concern.TheVariants.{SharedRecord}

@@ -2,7 +2,7 @@
 
 ghost use Rattle.std.specs.Prelude.{◌≡◌, ◌≤◌, ◌++◌, IfOk, None, OnOk, length, slice_index_or};
 ghost use Rattle.dsa_descriptor.specs.Pieces.{most_pieces};
-ghost use Rattle.dsa_plan.specs.Plan.{piece_count};
+ghost use Rattle.dsa_settings.specs.Plan.{piece_count};
 ghost use Rattle.dsa_warnings.specs.Warnings.{AreWarnings, goes_on, last_barrier, shared_concern, warnings_at, warnings_from, with_piece};
 
 use crate::concerned::Concerned;

@@ -1,7 +1,7 @@
 use Rattle.std.proofs.Common.{inr, List, Err, sym, subst}
 use Rattle.std.proofs.lemmas.Result.{IfOk-weaker}
 use Rattle.dsa_descriptor.specs.declared.descriptor.Descriptor.{Descriptor}
-use Rattle.dsa_plan.specs.EmissionFaults.{IsEmission}
+use Rattle.dsa_emission.specs.EmissionFaults.{IsEmission}
 use Rattle.dsa_plan.specs.Certificate.{contents}
 use Rattle.dsa_calls.specs.Checked.{Checks}
 use Rattle.dsa_calls.proofs.Over.{only_outcome}

@@ -1,5 +1,5 @@
 use Rattle.std.proofs.Common.{sym}
-use Rattle.dsa_plan.specs.Settings.BatchPrices.{SamePrice}
+use Rattle.dsa_settings.specs.Settings.BatchPrices.{SamePrice}
 use Rattle.dsa_advice.proofs.Spelled.{no_numbers, one_price, some_settings}
 use Rattle.dsa_advice.proofs.settings.with_price.Goals as goal
 

@@ -1,4 +1,4 @@
-use Rattle.dsa_plan.specs.Settings.BatchPrices.{BySize}
+use Rattle.dsa_settings.specs.Settings.BatchPrices.{BySize}
 use Rattle.dsa_advice.proofs.Spelled.{no_numbers, no_settings, one_table, same_table, some_settings}
 use Rattle.dsa_advice.proofs.settings.with_table.Goals as goal
 

@@ -1,6 +1,6 @@
 use Rattle.std.proofs.Common.{Err, refl}
 use Rattle.dsa_plan.specs.Certificate.{contents}
-use Rattle.dsa_plan.specs.Settings.{Limits}
+use Rattle.dsa_settings.specs.Settings.{Limits}
 use Rattle.dsa_calls.specs.declared.checking.FencedFault.{FencedFault}
 use Rattle.dsa_calls.specs.declared.checking.FencedFault.TheVariants.{Call}
 use Rattle.dsa_calls.specs.declared.fault.PlanFault.TheVariants.{Memory}

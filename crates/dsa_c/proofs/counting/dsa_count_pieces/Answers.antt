@@ -1,6 +1,6 @@
 use Rattle.std.proofs.Common.{List, ℕ, ◌≡◌, ap, ◌∙◌, refl, arith}
 use Rattle.std.specs.List.{sum_by}
-use Rattle.dsa_plan.specs.Settings.{Limits}
+use Rattle.dsa_settings.specs.Settings.{Limits}
 use Rattle.dsa_descriptor.specs.Lists.{entries}
 use Rattle.dsa_c.specs.Raw.{limits_of}
 use Rattle.dsa_c.specs.Counting.{pieces_of}

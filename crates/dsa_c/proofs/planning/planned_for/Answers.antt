@@ -1,5 +1,5 @@
 use Rattle.std.proofs.Common.{subst}
-use Rattle.dsa_plan.specs.Settings.{Limits}
+use Rattle.dsa_settings.specs.Settings.{Limits}
 use Rattle.dsa_lists.specs.AnyLists.{IsAnyPlan}
 use Rattle.dsa_c.proofs.Refusing.{refuses_any_list}
 use Rattle.dsa_c.proofs.planning.planned_for.Goals as goal

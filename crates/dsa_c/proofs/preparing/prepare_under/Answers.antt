@@ -1,5 +1,5 @@
 use Rattle.std.proofs.Common.{◌≡◌, ◌<◌, ℕ, rules, inl, inr, length, ap, subst, ◌∙◌, arith}
-use Rattle.dsa_plan.specs.Settings.{Limits}
+use Rattle.dsa_settings.specs.Settings.{Limits}
 use Rattle.dsa_prepared.specs.Preparing.{IsAnyCostedOf, IsFirstAnyPrepareFault}
 use Rattle.dsa_prepared.specs.Rows.{rows_of}
 use Rattle.dsa_prepared.specs.Templates.{Template}

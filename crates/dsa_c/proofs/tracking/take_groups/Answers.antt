@@ -1,8 +1,8 @@
 use Rattle.std.proofs.Common.{inr, List, length, refl, subst}
 use Rattle.dsa_operations.specs.declared.operation.Operation.{Operation}
 use Rattle.dsa_operations.specs.Operations.{operation_kind}
-use Rattle.dsa_plan.specs.EmissionFaults.{IsEmissionAs}
-use Rattle.dsa_plan.specs.Settings.{Limits}
+use Rattle.dsa_emission.specs.EmissionFaults.{IsEmissionAs}
+use Rattle.dsa_settings.specs.Settings.{Limits}
 use Rattle.dsa_c.specs.Tracking.{RefusesPlan, TakesPlan}
 use Rattle.dsa_c.proofs.Emissions.{refuses_emission}
 use Rattle.dsa_c.proofs.tracking.take_groups.Goals as goal

@@ -1,5 +1,5 @@
 use Rattle.dsa_ranges.specs.Pieces.{kind_of}
-use Rattle.dsa_plan.specs.Barriers.{WithBarriers}
+use Rattle.dsa_settings.specs.Barriers.{WithBarriers}
 use Rattle.dsa_plan.specs.Certificate.{contents}
 use Rattle.dsa_calls.proofs.PiecesChecked.{emission_refused}
 use Rattle.dsa_calls.proofs.checking.check_pieces.Goals as goal

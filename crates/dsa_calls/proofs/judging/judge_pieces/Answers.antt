@@ -1,8 +1,8 @@
 use Rattle.std.proofs.Common.{ℕ, inr, refl, sym, subst, map, arith}
 use Rattle.std.proofs.lemmas.List.{length-map}
 use Rattle.std.proofs.lemmas.Result.{err_from_is_err_and}
-use Rattle.dsa_plan.specs.Barriers.{WithBarriers}
-use Rattle.dsa_plan.specs.LegalFaults.{IsFirstLegalFault}
+use Rattle.dsa_settings.specs.Barriers.{WithBarriers}
+use Rattle.dsa_settings.specs.LegalFaults.{IsFirstLegalFault}
 use Rattle.dsa_calls.specs.Judge.{FitTransfer}
 use Rattle.dsa_calls.proofs.judging.judge_pieces.Goals as goal
 

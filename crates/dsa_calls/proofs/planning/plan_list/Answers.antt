@@ -4,7 +4,7 @@ use Rattle.dsa_descriptor.specs.declared.descriptor.Descriptor.{Descriptor}
 use Rattle.dsa_descriptor.specs.Descriptors.{fields}
 use Rattle.dsa_ranges.specs.Ranges.{ConflictAt}
 use Rattle.dsa_calls.specs.declared.fault.PlanFault.{PlanFault}
-use Rattle.dsa_plan.specs.Barriers.{WithBarriers}
+use Rattle.dsa_settings.specs.Barriers.{WithBarriers}
 use Rattle.dsa_calls.specs.Lists.{OrMemory}
 use Rattle.dsa_calls.specs.Planned.{Plans, ArePiecesOf, IsSubmissionOfPiecesBy, submission_of}
 use Rattle.dsa_calls.proofs.Over.{only_outcome}

@@ -3,7 +3,7 @@ use Rattle.std.proofs.lemmas.Result.{err_from_is_err_and}
 use Rattle.dsa_descriptor.specs.declared.descriptor.Descriptor.{Descriptor}
 use Rattle.dsa_descriptor.specs.Descriptors.{fields}
 use Rattle.dsa_ranges.specs.Ranges.{ConflictAt}
-use Rattle.dsa_plan.specs.Barriers.{WithBarriers}
+use Rattle.dsa_settings.specs.Barriers.{WithBarriers}
 use Rattle.dsa_calls.specs.Planned.{IsSubmissionOfPiecesBy, submission_of}
 use Rattle.dsa_calls.proofs.Submissions.{pieces_can, operations_refused}
 use Rattle.dsa_calls.proofs.planning.plan_operations.Goals as goal

@@ -6,10 +6,10 @@ use Rattle.std.proofs.lemmas.Option.{slice_get-get_or, get_or_from_slice_get}
 use Rattle.dsa_descriptor.specs.declared.descriptor.Descriptor.{Descriptor}
 use Rattle.dsa_descriptor.specs.Descriptors.{fields}
 use Rattle.dsa_ranges.specs.Ranges.{ConflictAt}
-use Rattle.dsa_plan.specs.Barriers.{WithBarriers}
-use Rattle.dsa_plan.specs.Plan.{plan_cost}
-use Rattle.dsa_plan.specs.Settings.{tariff_of}
-use Rattle.dsa_plan.specs.Emission.{portal_bytes, staging_bytes}
+use Rattle.dsa_settings.specs.Barriers.{WithBarriers}
+use Rattle.dsa_settings.specs.Plan.{plan_cost}
+use Rattle.dsa_settings.specs.Settings.{tariff_of}
+use Rattle.dsa_emission.specs.Emission.{portal_bytes, staging_bytes}
 use Rattle.dsa_search.specs.Chosen.{IsChosen}
 use Rattle.dsa_search.proofs.Choosing.{chosen_is_least}
 use Rattle.dsa_calls.proofs.Submissions.{can_emit_found}

@@ -1,7 +1,7 @@
 use Rattle.std.proofs.Common.{ℕ, ◌≡◌, ◌+◌, ◌-◌, ◌*◌, ◌≤◌, max, inl, inr, length, slice_index, refl, subst, sym, arith}
 use Rattle.std.proofs.lemmas.Bool.{cases_eq}
-use Rattle.dsa_plan.specs.Plan.{price_of}
-use Rattle.dsa_plan.specs.Settings.{sized_tariff}
+use Rattle.dsa_settings.specs.Plan.{price_of}
+use Rattle.dsa_settings.specs.Settings.{sized_tariff}
 use Rattle.dsa_checker.specs.Steps.{StepHolds}
 use Rattle.dsa_checker.specs.Blocks.{place}
 use Rattle.dsa_checker.proofs.Led.{first_step}

@@ -1,7 +1,7 @@
 use Rattle.std.proofs.Common.{◌≡◌, ℕ, ◌+◌, refl, length, slice_index, sym, ap, ◌∙◌, subst, inl, inr, arith}
 use Rattle.dsa_plan.specs.Certificate.{contents}
-use Rattle.dsa_plan.specs.Barriers.{WithBarriers}
-use Rattle.dsa_plan.specs.Settings.{tariff_of, version_of}
+use Rattle.dsa_settings.specs.Barriers.{WithBarriers}
+use Rattle.dsa_settings.specs.Settings.{tariff_of, version_of}
 use Rattle.dsa_plan.proofs.Steps.{yes_means_least}
 use Rattle.dsa_checker.specs.Steps.{PairsHold, IsFirstBadPair, StepsHold, IsFirstBadStep}
 use Rattle.dsa_checker.specs.declared.fault.CheckFault.TheVariants.{Pair, Price, Total}

@@ -1,5 +1,5 @@
 use Rattle.std.proofs.Common.{ℕ, ◌+◌, ◌-◌, ◌<◌, ◌≤◌, length}
-use Rattle.dsa_plan.specs.Settings.{sized_tariff}
+use Rattle.dsa_settings.specs.Settings.{sized_tariff}
 use Rattle.dsa_checker.specs.Steps.{HoldsWithin}
 use Rattle.dsa_checker.specs.Blocks.{AreChains}
 use Rattle.dsa_checker.proofs.held.block_holds.Given as goal

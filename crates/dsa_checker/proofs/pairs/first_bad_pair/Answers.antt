@@ -1,5 +1,5 @@
 use Rattle.std.proofs.Common.{ℕ, length, below_more, arith}
-use Rattle.dsa_plan.specs.Barriers.{WithBarriers}
+use Rattle.dsa_settings.specs.Barriers.{WithBarriers}
 use Rattle.dsa_checker.specs.Steps.{PairHolds}
 use Rattle.dsa_checker.proofs.pairs.first_bad_pair.Goals as goal
 

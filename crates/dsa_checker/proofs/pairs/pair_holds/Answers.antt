@@ -1,7 +1,7 @@
 use Rattle.std.proofs.Common.{◌≡◌, ◌<◌, ◌≤◌, ◌⊎◌, inl, inr, length, None, Some, ap, ◌∙◌, slice_get, arith}
 use Rattle.std.proofs.lemmas.Grind.{elements}
 use Rattle.std.proofs.lemmas.Option.{slice_get-get_or}
-use Rattle.dsa_plan.specs.Barriers.{WithBarriers}
+use Rattle.dsa_settings.specs.Barriers.{WithBarriers}
 use Rattle.dsa_checker.proofs.Holding.{holds_if, conflict_if, no_pair}
 use Rattle.dsa_checker.proofs.pairs.pair_holds.Goals as goal
 use Rattle.dsa_checker.proofs.pairs.pair_holds.Goals.{then-first-i-via-then-first-i, then-first-i-via-else-first-i+then-second-first, then-first-i-via-else-first-i+else-second-first+then-pieces-second}

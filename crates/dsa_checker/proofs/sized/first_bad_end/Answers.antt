@@ -1,9 +1,9 @@
 use Rattle.std.proofs.Common.{◌≡◌, ℕ, ◌+◌, ◌-◌, ◌≤◌, length, inl, inr, subst, arith, slice_index}
 use Rattle.std.proofs.lemmas.Bool.{cases_lt}
-use Rattle.dsa_plan.specs.Plan.{price_of}
+use Rattle.dsa_settings.specs.Plan.{price_of}
 use Rattle.dsa_plan.specs.Chain.{IsLastBelow}
 use Rattle.dsa_plan.proofs.Chains.{IsLastBelow-start}
-use Rattle.dsa_plan.specs.Settings.{sized_tariff}
+use Rattle.dsa_settings.specs.Settings.{sized_tariff}
 use Rattle.dsa_checker.specs.Steps.{StepHolds}
 use Rattle.dsa_checker.proofs.Led.{first_step}
 use Rattle.dsa_plan.proofs.Joined.{last_fits}

@@ -1,7 +1,7 @@
 use Rattle.std.proofs.Common.{ℕ, ◌+◌, ◌-◌, ◌<◌, ◌≤◌, length}
 use Rattle.dsa_plan.specs.Chain.{IsLastBelow}
 use Rattle.dsa_checker.specs.Steps.{IsReach, StepHolds}
-use Rattle.dsa_plan.specs.Settings.{sized_tariff}
+use Rattle.dsa_settings.specs.Settings.{sized_tariff}
 use Rattle.dsa_checker.proofs.sized.first_bad_end.Given as goal
 
 -- the steps to the ends so far hold

@@ -1,6 +1,6 @@
 use Rattle.std.proofs.Common.{ℕ, ◌+◌, ◌<◌, length}
 use Rattle.dsa_checker.specs.Steps.{StepsHoldFrom}
-use Rattle.dsa_plan.specs.Settings.{sized_tariff}
+use Rattle.dsa_settings.specs.Settings.{sized_tariff}
 use Rattle.dsa_checker.proofs.sized.first_bad_sized_step.Given as goal
 
 -- the steps from the starts so far hold

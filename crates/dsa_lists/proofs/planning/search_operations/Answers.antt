@@ -1,7 +1,7 @@
 use Rattle.std.proofs.Common.{◌≡◌, ◌-◌, ℕ, length, subst, arith}
 use Rattle.std.proofs.lemmas.Result.{IfOk-weaker}
 use Rattle.dsa_conflicts.specs.Last.{HasLastsBy}
-use Rattle.dsa_plan.specs.Settings.{tariff_of}
+use Rattle.dsa_settings.specs.Settings.{tariff_of}
 use Rattle.dsa_search.proofs.Pairing.{lasts_go_back}
 use Rattle.dsa_search.proofs.Searched.{with_chosen, with_least, with_good}
 use Rattle.dsa_operations.specs.Operations.{OperationConflictAt}

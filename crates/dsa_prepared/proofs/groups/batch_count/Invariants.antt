@@ -1,5 +1,5 @@
 use Rattle.std.proofs.Common.{◌≡◌, take}
-use Rattle.dsa_plan.specs.Emission.{batch_count}
+use Rattle.dsa_emission.specs.Emission.{batch_count}
 use Rattle.dsa_prepared.proofs.groups.batch_count.Given as goal
 
 -- the batches of the groups so far

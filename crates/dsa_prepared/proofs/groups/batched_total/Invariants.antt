@@ -1,5 +1,5 @@
 use Rattle.std.proofs.Common.{◌≡◌, take}
-use Rattle.dsa_plan.specs.Emission.{batched_count}
+use Rattle.dsa_emission.specs.Emission.{batched_count}
 use Rattle.dsa_prepared.proofs.groups.batched_total.Given as goal
 
 -- the pieces in batches of the groups so far

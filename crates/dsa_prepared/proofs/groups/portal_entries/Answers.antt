@@ -1,8 +1,8 @@
 use Rattle.std.proofs.Common.{◌≡◌, ◌+◌, ◌*◌, length, ap, sym, ◌∙◌, Some, arith}
 use Rattle.std.proofs.lemmas.Option.{slice_get-get_or}
 use Rattle.dsa_emission.specs.declared.place.Place.{Place}
-use Rattle.dsa_plan.specs.Plan.{piece_count}
-use Rattle.dsa_plan.specs.Emission.{batched_count, place_of}
+use Rattle.dsa_settings.specs.Plan.{piece_count}
+use Rattle.dsa_emission.specs.Emission.{batched_count, place_of}
 use Rattle.dsa_emission.proofs.Places.{placed, place_of-next}
 use Rattle.dsa_prepared.proofs.GroupEntries.{batched_few, portal_next, total_few}
 use Rattle.dsa_prepared.proofs.groups.portal_entries.Goals as goal

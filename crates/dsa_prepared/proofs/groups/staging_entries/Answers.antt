@@ -1,8 +1,8 @@
 use Rattle.std.proofs.Common.{[], length, ap, sym, arith}
 use Rattle.std.specs.Prelude.{slice_index_or}
 use Rattle.std.proofs.lemmas.List.Sums.{sum_by_more}
-use Rattle.dsa_plan.specs.Plan.{Group}
-use Rattle.dsa_plan.specs.Emission.{place_of}
+use Rattle.dsa_settings.specs.Plan.{Group}
+use Rattle.dsa_emission.specs.Emission.{place_of}
 use Rattle.dsa_emission.proofs.Places.{placed, group_read}
 use Rattle.dsa_prepared.specs.Templates.{group_staged}
 use Rattle.dsa_prepared.proofs.GroupEntries.{gathered_more, staged_here}

@@ -1,7 +1,7 @@
 use Rattle.std.proofs.Common.{◌≡◌, []}
 use Rattle.std.specs.Prelude.{slice_index_or}
-use Rattle.dsa_plan.specs.Plan.{start_of}
-use Rattle.dsa_plan.specs.Emission.{place_of}
+use Rattle.dsa_settings.specs.Plan.{start_of}
+use Rattle.dsa_emission.specs.Emission.{place_of}
 use Rattle.dsa_prepared.specs.Templates.{gathered, group_staged}
 use Rattle.dsa_prepared.proofs.groups.staging_entries.Given as goal
 

@@ -1,6 +1,6 @@
 use Rattle.std.proofs.Common.{◌≡◌, length, ap, sym, subst, ◌∙◌}
-use Rattle.dsa_plan.specs.Emission.{batch_count}
-use Rattle.dsa_plan.specs.Plan.{Plan}
+use Rattle.dsa_emission.specs.Emission.{batch_count}
+use Rattle.dsa_settings.specs.Plan.{Plan}
 use Rattle.dsa_prepared.specs.Sound.{IsSound}
 use Rattle.dsa_prepared.specs.Templates.{template, template_of, portal_entries, staging_entries}
 use Rattle.dsa_prepared.proofs.SoundTemplates.{sound}

@@ -1,6 +1,6 @@
 use Rattle.std.proofs.Common.{◌≡◌, ◌++◌, drop}
 use Rattle.std.specs.Prelude.{All}
-use Rattle.dsa_plan.specs.Plan.{start_of}
+use Rattle.dsa_settings.specs.Plan.{start_of}
 use Rattle.dsa_reasons.specs.Fences.{IsExplained, fence_places, fenced_pieces}
 use Rattle.dsa_reasons.proofs.fences.fences_of.Given as goal
 

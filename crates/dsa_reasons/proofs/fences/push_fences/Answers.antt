@@ -1,5 +1,5 @@
 use Rattle.std.proofs.Common.{◌≡◌, ◌<◌, ◌++◌, get_or, length, subst, true, false}
-use Rattle.dsa_plan.specs.Plan.{Group}
+use Rattle.dsa_settings.specs.Plan.{Group}
 use Rattle.dsa_reasons.specs.declared.fences.Fence.{Fence}
 use Rattle.dsa_reasons.specs.Fences.{HasReasons, fence_places, fenced_in}
 use Rattle.dsa_reasons.proofs.Fenced.{explained_pushed, fence_passed, fence_pushed, is_fenced}

@@ -1,5 +1,5 @@
 use Rattle.std.proofs.Common.{ap, ◌∙◌}
-use Rattle.dsa_plan.specs.Plan.{piece_count}
+use Rattle.dsa_settings.specs.Plan.{piece_count}
 use Rattle.dsa_reasons.proofs.OneGroup.{whole_count}
 use Rattle.dsa_reasons.proofs.one_group.cut_reasons.Goals as goal
 

@@ -1,5 +1,5 @@
 use Rattle.std.proofs.Common.{ℕ, ◌<◌, ◌≤◌}
-use Rattle.dsa_plan.specs.Legal.{IsFenced}
+use Rattle.dsa_settings.specs.Legal.{IsFenced}
 use Rattle.dsa_reasons.specs.Reasons.{HasReasonsSoFar}
 use Rattle.dsa_reasons.proofs.reason.push_conflicts.Given as goal
 

@@ -1,5 +1,5 @@
 use Rattle.std.proofs.Common.{◌-◌, length}
-use Rattle.dsa_plan.specs.Settings.{tariff_of}
+use Rattle.dsa_settings.specs.Settings.{tariff_of}
 use Rattle.dsa_search.specs.Filled.{HasProgress}
 use Rattle.dsa_search.proofs.costs.fill_from.Given as goal
 

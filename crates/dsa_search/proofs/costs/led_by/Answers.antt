@@ -1,5 +1,5 @@
 use Rattle.std.proofs.Common.{◌≡◌, ℕ, ◌+◌, ◌-◌, length, refl, subst, arith}
-use Rattle.dsa_plan.specs.Settings.{tariff_of}
+use Rattle.dsa_settings.specs.Settings.{tariff_of}
 use Rattle.dsa_plan.specs.Chain.{IsLastBelow, LeadsTo}
 use Rattle.dsa_search.specs.Filled.{HasOffers, past_reach}
 use Rattle.dsa_search.proofs.Filling.{last_after, offers_after}

@@ -1,7 +1,7 @@
 use Rattle.std.proofs.Common.{◌≡◌, ℕ, ◌+◌, length, subst, arith}
 use Rattle.dsa_plan.specs.Chain.{IsLastBelow}
 use Rattle.dsa_plan.proofs.Together.{Reaches-far}
-use Rattle.dsa_plan.specs.Settings.{sized_tariff}
+use Rattle.dsa_settings.specs.Settings.{sized_tariff}
 use Rattle.dsa_search.specs.Filled.{HasOffers, past_reach}
 use Rattle.dsa_search.proofs.Sizing.{offers_on_sheet, offers_off_sheet}
 use Rattle.dsa_search.proofs.costs.offer_rows.Goals as goal

@@ -2,7 +2,7 @@ use Rattle.std.proofs.Common.{◌≡◌, ℕ, ◌+◌, ◌*◌, ◌<◌, ◌≤�
 use Rattle.std.proofs.Math.Nat.{mul-le-mul_right}
 use Rattle.std.proofs.lemmas.Bool.{cases_eq}
 use Rattle.std.proofs.lemmas.List.{length-set, get_or-set_same, get_or-set_other}
-use Rattle.dsa_plan.specs.Settings.{greatest_price}
+use Rattle.dsa_settings.specs.Settings.{greatest_price}
 use Rattle.dsa_plan.proofs.Chains.{IsLastBelow-start}
 use Rattle.dsa_plan.proofs.Joined.{last_fits}
 use Rattle.dsa_search.proofs.one_batch.fill_joined.Goals.{then-last-eq0, else-last-eq0}

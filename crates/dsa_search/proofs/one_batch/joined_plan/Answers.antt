@@ -1,6 +1,6 @@
 use Rattle.std.proofs.Common.{◌≡◌, [], ◌∷◌, length, refl, sym, subst, ◌∙◌, arith}
-use Rattle.dsa_plan.specs.Plan.{Plan}
-use Rattle.dsa_plan.specs.Settings.{tariff_of}
+use Rattle.dsa_settings.specs.Plan.{Plan}
+use Rattle.dsa_settings.specs.Settings.{tariff_of}
 use Rattle.dsa_search.specs.Entries.{IsReadPlan}
 use Rattle.dsa_search.proofs.Joining.{joined_filled, joined_read}
 use Rattle.dsa_search.proofs.one_batch.joined_plan.Goals as goal

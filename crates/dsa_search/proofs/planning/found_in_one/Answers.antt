@@ -1,5 +1,5 @@
 use Rattle.std.proofs.Common.{◌≡◌, length, refl, rules}
-use Rattle.dsa_plan.specs.Settings.{tariff_of}
+use Rattle.dsa_settings.specs.Settings.{tariff_of}
 use Rattle.dsa_search.specs.OneBatch.{AreBatchCosts}
 use Rattle.dsa_search.proofs.Batching.{no_pairs, found_one_batch}
 use Rattle.dsa_search.proofs.planning.found_in_one.Goals as goal

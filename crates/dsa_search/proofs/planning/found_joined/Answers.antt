@@ -1,5 +1,5 @@
 use Rattle.std.proofs.Common.{length, arith}
-use Rattle.dsa_plan.specs.Settings.{tariff_of}
+use Rattle.dsa_settings.specs.Settings.{tariff_of}
 use Rattle.dsa_plan.specs.Chain.{GoForward}
 use Rattle.dsa_plan.proofs.Groups.{forward_from_pairs}
 use Rattle.dsa_search.specs.Lasts.{IsLastOf}

@@ -1,7 +1,7 @@
 use Rattle.std.proofs.Common.{◌<◌, List, Option, ℕ, ◌∙◌, subst, sym, arith}
 use Rattle.std.proofs.lemmas.List.{with_items_is}
 use Rattle.std.proofs.lemmas.Result.{IfOk-weaker}
-use Rattle.dsa_plan.specs.Settings.{tariff_of}
+use Rattle.dsa_settings.specs.Settings.{tariff_of}
 use Rattle.dsa_search.specs.Lasts.{AddsBarriers}
 use Rattle.dsa_search.proofs.Searched.{found_chosen}
 use Rattle.dsa_search.proofs.planning.search_lasts.Goals as goal

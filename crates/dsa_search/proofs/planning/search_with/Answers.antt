@@ -4,7 +4,7 @@ use Rattle.std.proofs.lemmas.Result.{IfOk-weaker}
 use Rattle.dsa_descriptor.specs.Descriptors.{fields}
 use Rattle.dsa_ranges.specs.Ranges.{ConflictAt}
 use Rattle.dsa_conflicts.specs.Last.{HasLastsBy}
-use Rattle.dsa_plan.specs.Settings.{tariff_of}
+use Rattle.dsa_settings.specs.Settings.{tariff_of}
 use Rattle.dsa_search.proofs.Pairing.{lasts_go_back}
 use Rattle.dsa_search.proofs.Searched.{lasts_of_descriptors, with_chosen, with_least, with_good}
 use Rattle.dsa_search.proofs.planning.search_with.Goals as goal

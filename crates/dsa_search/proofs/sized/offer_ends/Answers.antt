@@ -1,6 +1,6 @@
 use Rattle.std.proofs.Common.{◌≡◌, ℕ, ◌+◌, length, subst, arith}
 use Rattle.dsa_search.specs.Filled.{HasOffers, past_reach}
-use Rattle.dsa_plan.specs.Settings.{sized_tariff}
+use Rattle.dsa_settings.specs.Settings.{sized_tariff}
 use Rattle.dsa_search.proofs.sized.offer_ends.Goals as goal
 
 pub loop-end-init : goal.loop-end-init

@@ -1,8 +1,8 @@
 use Rattle.std.proofs.Common.{length, map, refl, ap, subst, arith}
 use Rattle.dsa_descriptor.specs.Descriptors.{fields}
 use Rattle.dsa_ranges.specs.Ranges.{ConflictAt}
-use Rattle.dsa_plan.specs.Settings.{Limits}
-use Rattle.dsa_plan.specs.Legal.{IsLegal}
+use Rattle.dsa_settings.specs.Settings.{Limits}
+use Rattle.dsa_settings.specs.Legal.{IsLegal}
 use Rattle.dsa_tests.proofs.engines.can_run.Goals as goal
 
 pub returns : goal.returns

@@ -1,7 +1,7 @@
 use Rattle.std.proofs.Common.{length, map, refl, ap, arith}
 use Rattle.dsa_descriptor.specs.Descriptors.{fields}
 use Rattle.dsa_ranges.specs.Ranges.{ConflictAt}
-use Rattle.dsa_plan.specs.Settings.{Limits}
+use Rattle.dsa_settings.specs.Settings.{Limits}
 use Rattle.dsa_core.specs.Accounts.{most_members}
 use Rattle.dsa_settings.proofs.Epochs.{legal_with_more}
 use Rattle.dsa_tests.proofs.rooms.is_runnable.Goals as goal

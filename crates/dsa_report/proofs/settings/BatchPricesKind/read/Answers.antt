@@ -1,7 +1,7 @@
 use Rattle.std.proofs.Common.{refl, sym, ◌∙◌}
 use Rattle.json.specs.Reads.{token_of}
 use Rattle.json.specs.Token.{Token}
-use Rattle.dsa_plan.specs.Settings.BatchPrices.{SamePrice}
+use Rattle.dsa_settings.specs.Settings.BatchPrices.{SamePrice}
 use Rattle.dsa_tokens.proofs.Begun.{is_array, kind_taken}
 use Rattle.dsa_report.proofs.SettingsRead.{first_prices, no_prices, no_table}
 use Rattle.dsa_report.proofs.settings.BatchPricesKind.read.Goals as goal

@@ -4,7 +4,7 @@
 
 A list of up to six pieces of all operations over few addresses is planned; its answer is checked; plans of it are
 judged; and it is run by 1 to 4 engines and replayed, in order and in a random complete order. With more than 1,000
-lists it tells how far it is.
+lists it reports how far it is.
 """
 
 import json

@@ -130,7 +130,7 @@ true_and : (x y : Bool) → x ≡ true → y ≡ true → (x && y) ≡ true
 true_and true y x_is y_is = y_is
 true_and false y x_is y_is = absurd cc
 
--- whether two spans are equal is told by their fields
+-- whether two spans are equal is decided by their fields
 pub span_decides : (a b : Span) → Decides ((a.first == b.first) && (a.len == b.len)) (a ≡ b)
 span_decides a b = (
   (λ h.

@@ -10,7 +10,7 @@ use Rattle.dsa_image.specs.Memory.{Memory, HoldsRanges}
 use Rattle.dsa_image.specs.Holding.{IsFirstOutside}
 use Rattle.dsa_image.proofs.Holdings.{list_more, list_first, list_all}
 
--- whether a memory has the addresses of a piece can be told
+-- whether a memory has the addresses of a piece can be decided
 stable : (m : Memory) (d : Fields) → ((HoldsRanges m d → ⊥) → ⊥) → HoldsRanges m d
 stable m d not_not a touched =
     elim (cases_lt a m.first) [

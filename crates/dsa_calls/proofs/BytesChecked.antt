@@ -68,7 +68,7 @@ module _ (P : Type 0) (kind : Kind P) (are : AreEntries kind.spelling kind.keeps
   one_submitted o p (inl (f, nf, first, is)) (inr (plan, ps, emission, checks)) = absurd (no_fault P kind are portal staging s plan ps f emission nf first)
   one_submitted o p (inr (plan, ps, emission, checks)) other = one_checked_by (conflict ps) s (length ps) plan c o p checks (said_of_plan plan ps p emission other)
 
-  -- where an answer is told, the plan of the bytes is least
+  -- if it answers, the plan of the bytes is least
   pub shown_least : (r : Result ℕ PlanFault) → OrMemory (λ cost. cost) (ChecksSubmitted kind conflict portal staging s c) r → (plan : Plan) (ps : List P) → IsEmissionAs kind s portal staging plan ps → IsOk r
       → IsLeast (conflict ps) s.greatest_batch (tariff_of s) (length ps) plan
   shown_least (Err fault) h plan ps emission ok = cc

@@ -166,7 +166,8 @@ pub(crate) fn touches_of<T: Touching, F: Finding<T>>(
 ) -> Result<Vec<Touch>, AllocError>
     requires { length pieces.now ≤ most_pieces }
     ensures sorted { IfOk result (λ touches. IsNonDecreasingBy (λ t. t.span.first) touches.items) }
-    ensures known { IfOk result (λ touches. All (IsTouchOf T.reads T.writes pieces.now) touches.items) }
+    ensures known { IfOk result
+        (λ touches. All (IsTouchOf T.reads T.writes pieces.now) touches.items) }
     ensures all { IfOk result
         (λ touches. HasTouches T.reads T.writes touches.items pieces.now (length pieces.now)) }
 {

@@ -25,7 +25,7 @@ pub(crate) fn push_bar(text: &mut String, bar: &Bar, start: usize) -> Result<(),
 }
 
 /// Writes what columns that are alike have in common: the name, which may be a comment, the size, and how many spans
-/// are read and written, which tells operations apart.
+/// are read and written, which distinguishes operations.
 pub(crate) fn push_column(text: &mut String, column: &Column) -> Result<(), AllocError> {
     let (name, size) = (&column.name, column.size);
     write!(text, "; {name} {size}")?;

@@ -85,7 +85,7 @@ module _ (P : Type 0) (kind : Kind P) (are : AreEntries kind.spelling kind.keeps
   fits : (k : ℕ) → k < length (entries portal) → Fits (place_of plan k) (group_at plan k) ps
   fits k lt = fits_by P kind are s plan ps m.can_be k (omega (arith, count))
 
-  -- what the entry of a group tells
+  -- what the entry of a group gives
   record Tells (k : ℕ) : Type 0 where
     size : length (group_at plan k) ≡ entry_size (entry portal k)
     batch : is_batch (group_at plan k) ≡ is_batch_entry (entry portal k)

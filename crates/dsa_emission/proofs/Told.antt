@@ -176,7 +176,7 @@ module _ (P : Type 0) (kind : Kind P) (are : AreEntries kind.spelling kind.keeps
             ap length is ∙ are.whole p
       ]
 
-  -- the entry tells the size of the group
+  -- the entry gives the size of the group
   size_told : (s : Limits) (total total' : ℕ) (place place' : Place) (g g' : Group) (ps ps' : List P) → Fits place g ps → Fits place' g' ps' →
       group_entry kind.spelling s total place g ps ≡ group_entry kind.spelling s total' place' g' ps' → length g ≡ length g'
   size_told s total total' place place' g g' ps ps' fits fits' same =

@@ -16,9 +16,8 @@ use Rattle.dsa_settings.specs.Settings.{Limits}
 use Rattle.dsa_splitter.specs.Pieces.{piece_barriers}
 use Rattle.dsa_splitter.proofs.Walks.{length_all}
 use Rattle.dsa_calls.specs.declared.fault.PlanFault.{PlanFault}
-use Rattle.dsa_calls.specs.Fenced.{PiecesConflict, PlansWith}
+use Rattle.dsa_calls.specs.Fenced.{PiecesConflict}
 use Rattle.dsa_calls.specs.Lists.{OrMemory}
-use Rattle.dsa_calls.specs.Planned.{Submission}
 use Rattle.dsa_calls.proofs.PiecesChecked.{shown_by}
 use Rattle.dsa_operations.specs.declared.operation.Operation.{Operation}
 use Rattle.dsa_operations.specs.declared.operation.Operation.TheVariants as operation

@@ -1,7 +1,7 @@
 -- Conflicts of pieces of any kind; descriptors as pieces.
-use Rattle.std.proofs.Common.{◌≡◌, ℕ, ◌<◌, List, length, map, get_or, Bool, Some, None, option_map, refl, sym, ap, subst, ◌∙◌}
+use Rattle.std.proofs.Common.{◌≡◌, ℕ, List, map, Bool, Some, None, option_map, refl, sym, ap, subst, ◌∙◌}
 use Rattle.std.specs.Prelude.{◌↔◌, Option, IsTrue, slice_get}
-use Rattle.std.proofs.lemmas.Option.{slice_get-map, slice_get_read, same_Some}
+use Rattle.std.proofs.lemmas.Option.{slice_get-map, same_Some}
 use Rattle.dsa_descriptor.specs.declared.descriptor.Descriptor.{Descriptor}
 use Rattle.dsa_descriptor.specs.declared.span.Span.{Span}
 use Rattle.dsa_descriptor.specs.Fields.{Fields}

@@ -1,5 +1,5 @@
 -- What a tracker knows: which slots have an outstanding submission, what it reads and writes, and what it waits for. (That
--- there are slots, and what a caller is told of them, is this project's choice.)
+-- there are slots, and what a caller learns of them, is this project's choice.)
 use Rattle.std.specs.Prelude.{◌≡◌, ◌≢◌, ℕ, ◌<◌, ◌↔◌, ◌⊎◌, List, Option, Some, None, length, slice_get}
 use Rattle.dsa_descriptor.specs.declared.span.Span.{Span}
 use Rattle.dsa_ranges.specs.Ranges.{SpansConflict}

@@ -97,7 +97,7 @@ fault_there kind s portal staging demands es st fault p q d f =
     subst (λ (z : List (List ℕ)). IsFirstPortalFault kind (demands_of s (entries portal) z) (entries portal) z fault) q
     (subst (λ (z : List (List ℕ)). IsFirstPortalFault kind (demands_of s z st) z st fault) p (subst (λ (z : Demands). IsFirstPortalFault kind z es st fault) d f))
 
--- what reading the groups told
+-- what reading the groups returned
 read_fault : {P : Type 0} (kind : Kind P) (s : Limits) (portal staging : List ℕ) (demands : Demands) (es st : List (List ℕ)) (fault : EmissionFault) → es ≡ entries portal → st ≡ entries staging → demands ≡ demands_of s es st →
     HasBatches s portal staging → ((fault ≡ Memory) ⊎ IsFirstPortalFault kind demands es st fault) → IsFirstEmissionFaultAs kind s portal staging fault
 read_fault kind s portal staging demands es st fault p q d batches (inl none) = subst (IsFirstEmissionFaultAs kind s portal staging) (sym none) batches

@@ -1,4 +1,4 @@
-use Rattle.std.proofs.Common.{◌≡◌, get_or, subst, ap, ◌∙◌}
+use Rattle.std.proofs.Common.{◌≡◌, get_or}
 use Rattle.dsa_operations.specs.declared.operation.Operation.TheVariants as operation
 use Rattle.dsa_lists.proofs.ReadLists.{not_descriptors}
 use Rattle.dsa_lists.proofs.read_list.descriptors_of.Goals as goal

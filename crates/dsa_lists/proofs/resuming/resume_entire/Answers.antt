@@ -1,6 +1,6 @@
 use Rattle.std.proofs.Common.{inl, inr, Err, List, refl, subst}
 use Rattle.dsa_resume.specs.Resumed.{IsAnswer, ResumesPieces, Stopped}
-use Rattle.dsa_resume.proofs.Resumed.{answers_for, answers_more, answers_plan}
+use Rattle.dsa_resume.proofs.Resumed.{answers_for, answers_more}
 use Rattle.dsa_operations.specs.declared.operation.Operation.{Operation}
 use Rattle.dsa_operations.specs.Operations.{writes_of}
 use Rattle.dsa_lists.specs.Resuming.{ResumesEntire}

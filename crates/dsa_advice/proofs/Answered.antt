@@ -12,9 +12,6 @@ use Rattle.dsa_settings.specs.Barriers.{WithBarriers}
 use Rattle.dsa_settings.specs.Legal.{IsLegal}
 use Rattle.dsa_settings.specs.Settings.{Limits}
 use Rattle.dsa_ranges.specs.Ranges.{ConflictAt}
-use Rattle.dsa_lines.specs.declared.fault.TextFault.{TextFault}
-use Rattle.dsa_lines.specs.declared.fault.TextFault.TheVariants.{Grammar, List as Listed, Memory as TextMemory}
-use Rattle.dsa_lines.specs.Assembled.{Assembles}
 use Rattle.dsa_calls.specs.declared.fault.PlanFault.{PlanFault}
 use Rattle.dsa_calls.specs.declared.fault.PlanFault.TheVariants.{Memory}
 use Rattle.dsa_calls.specs.Lists.{IsOrMemory, OrMemory}
@@ -40,20 +37,13 @@ both (Err e) P Q R f p q = p
 
 -- ---- faults
 
--- what was told is the cause, unless an allocation failed
+-- what was reported is the cause, unless an allocation failed
 pub told_cause : {E : Type 0} (r : Result Answer E) (told fault : PlanFault) → IsOrMemory (λ (cost : ℕ). cost) (Err fault) (Err told) → IfOk r (IsRefusal told)
     → IfOk r (λ a. IsRefusal Memory a ⊎ IsRefusal fault a)
 told_cause r told fault (inl e) h = IfOk-weaker r _ _ (λ a x. inl (subst (λ (f : PlanFault). IsRefusal f a) e x)) h
 told_cause r told fault (inr e) h =
     let same : told ≡ fault = cc in
     IfOk-weaker r _ _ (λ a x. inr (subst (λ (f : PlanFault). IsRefusal f a) same x)) h
-
--- why a text is refused is the same, however its bytes are seen
-pub same_fault : {X : Type 0} (shown : X → List ℕ) (lines : List (List ℕ)) (fault : TextFault) → Assembles shown lines (Err fault)
-    → Assembles {X = List ℕ} (λ bytes. bytes) lines (Err fault)
-same_fault shown lines (Grammar line column what) e = e
-same_fault shown lines (Listed line fault) e = e
-same_fault shown lines TextMemory e = e
 
 -- ---- a plan
 
@@ -133,7 +123,7 @@ pub operations_refused : {E : Type 0} (operations : List Operation) (bs : List B
     → OrMemory planned_pieces_of (PlansRead s operations bs) (Err fault) → IfOk r (IsRefusal fault) → IfOk r (ExplainsOperations operations bs names s form)
 operations_refused operations bs names s form fault r told h = IfOk-weaker r _ _ (λ a x. is_refused fault told x) h
 
--- the one cause is the one that is told
+-- the one cause is the one that is reported
 pub same_cause : {E : Type 0} (r : Result Answer E) (told fault : PlanFault) (o p : Result ℕ PlanFault) → o ≡ p → o ≡ Err told → p ≡ Err fault → IfOk r (IsRefusal told) → IfOk r (IsRefusal fault)
 same_cause r told fault o p e is is' h =
     let same : told ≡ fault = cc in

@@ -19,7 +19,7 @@ use Rattle.dsa_plan.specs.Certificate.{Contents}
 use Rattle.dsa_lines.specs.declared.fault.TextFault.{TextFault}
 use Rattle.dsa_lines.specs.Barriers.{barriers_of}
 use Rattle.dsa_lines.specs.Texts.{all_fields, lines_of}
-use Rattle.dsa_lines.specs.Assembled.{Assembles}
+use Rattle.dsa_lines.specs.TextLists.{IsFirstTextFault}
 use Rattle.dsa_calls.specs.declared.fault.PlanFault.{PlanFault}
 use Rattle.dsa_calls.specs.declared.fault.PlanFault.TheVariants.{Memory}
 use Rattle.dsa_calls.specs.Checked.{Checks, IsShownLeast}
@@ -71,7 +71,7 @@ pub data ExplainsList (list : List ℕ) (s : Limits) (form : Form) (a : Answer) 
 -- refused if the text spells no list; else the answer for the operations and the barriers that it spells, with the comments of
 -- its operations as their names
 pub data ExplainsText (text : List ℕ) (keep_fences : Bool) (s : Limits) (form : Form) (a : Answer) : Type 0 where
-  is_refused_text : (fault : TextFault) → Assembles (λ bytes. bytes) (lines_of text) (Err fault) → RefusesText fault a → ExplainsText text keep_fences s form a
+  is_refused_text : (fault : TextFault) → IsFirstTextFault (lines_of text) fault → RefusesText fault a → ExplainsText text keep_fences s form a
   is_assembled : (operations : List Operation) → all_fields (lines_of text) ≡ Some (map operation_fields operations) → AreOfOneOwner spelling_of operations
       → ExplainsOperations operations (barriers_of keep_fences (lines_of text)) (names_of (lines_of text)) s form a → ExplainsText text keep_fences s form a
 

@@ -75,12 +75,18 @@ abbrev pub DescriptorsAreFencedAlike : Type 0
 DescriptorsAreFencedAlike =
     (d : Descriptor) (fence : Bool) → fenced fence (spelling (fields d)) ≡ spelling (with_fence fence (fields d))
 
--- ---- for private clauses
+-- ---- fences that are barriers, or are none
 
--- the entry as it is read: with its flag, or without
-abbrev pub seen_entry : Bool → List ℕ → List ℕ
-seen_entry as_barriers bytes = if as_barriers then unfenced bytes else bytes
-
--- the bytes as they are read
+-- the bytes as they are read: if fences are barriers, without these
 abbrev pub seen_list : Bool → List ℕ → List ℕ
 seen_list as_barriers bytes = if as_barriers then unfenced_list bytes else bytes
+
+-- and the barriers
+abbrev pub seen_barriers : Bool → List ℕ → List Bool
+seen_barriers as_barriers bytes = if as_barriers then barriers_of bytes else []
+
+-- ---- for private clauses
+
+-- the entry as it is read
+abbrev pub seen_entry : Bool → List ℕ → List ℕ
+seen_entry as_barriers bytes = if as_barriers then unfenced bytes else bytes

@@ -102,12 +102,19 @@ fn read_fenced<E: Entry>(alloc: Global, bytes: &[u8]) -> Result<EntryList<E>, Li
     })
 }
 
-/// What the bytes spell as they are.
-pub(crate) fn read_plain<E: Entry>(alloc: Global, bytes: &[u8]) -> Result<EntryList<E>, ListFault>
-    ensures ok { IfOk result (λ list. (bytes.now ≡ flat_map E.spelling list.entries.items) ×
-        IsSound E.keeps bytes.now) }
+/// What the bytes spell as they are, 64 for each entry, with no barrier: an entry with a fence is at fault.
+///
+/// # Errors
+/// The first fault of the bytes, as [`read_entries`] reports that of bytes without fences.
+pub fn read_plain<E: Entry>(alloc: Global, bytes: &[u8]) -> Result<EntryList<E>, ListFault>
+    ensures found { IfOk result (λ list. bytes.now ≡ flat_map E.spelling list.entries.items) }
     ensures none { IfOk result (λ list. list.barriers.items ≡ []) }
-    ensures err { IfErr result (IsFirstFaultBy E.keeps bytes.now) }
+    ensures only { (es : List E) →
+        bytes.now ≡ flat_map E.spelling es → AreOfOneOwner E.spelling es →
+        MatchResult result (λ list. list.entries.items ≡ es) (λ fault. fault ≡ Memory) }
+    ensures fault { IfErr result (IsFirstFaultBy E.keeps bytes.now) }
+    ensures refused { (fault : ListFault) →
+        fault ≢ Memory → IsFirstFaultBy E.keeps bytes.now fault → result ≡ Err fault }
 {
     E::are_entries();
     let read = read_seen_entries::<E, false>(alloc, bytes)?;

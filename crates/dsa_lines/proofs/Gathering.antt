@@ -3,14 +3,12 @@ use Rattle.std.proofs.Common.{◌≡◌, ℕ, ◌+◌, Bool, false, Some, List, 
 use Rattle.std.proofs.lemmas.List.{append-nil}
 use Rattle.dsa_operations.specs.OperationFields.{OperationFields, all_spelled}
 use Rattle.dsa_lines.specs.declared.fault.TextFault.{TextFault}
-use Rattle.dsa_lines.specs.declared.fault.TextFault.TheVariants.{Grammar, List as Listed, Memory}
 use Rattle.dsa_lines.specs.declared.text_list.Gathered.{Gathered}
 use Rattle.dsa_lines.specs.declared.text_list.OperationLine.{OperationLine}
 use Rattle.dsa_lines.specs.Words.{words_of}
 use Rattle.dsa_lines.specs.Texts.{all_fields, line_fields}
-use Rattle.dsa_lines.specs.Assembled.{Stops, StopsAt}
 use Rattle.dsa_lines.specs.Barriers.{line_kind, line_marks, marks_from}
-use Rattle.dsa_lines.specs.TextLists.{HasAll, HasMore, NamesLine, NumberedLine, line_shown, numbered, operation_lines}
+use Rattle.dsa_lines.specs.TextLists.{HasAll, HasMore, NamesLine, NumberedLine, Stops, StopsAt, line_shown, numbered, operation_lines}
 use Rattle.dsa_lines.proofs.AnswerLemmas.{stops_there}
 use Rattle.dsa_lines.proofs.Marks.{marks_next, no_marks}
 use Rattle.dsa_lines.proofs.TextLemmas.{fields_more, no_fields, spelling_append}
@@ -97,12 +95,6 @@ stopped keep pending whole all lines line number g fault s is stops =
 
 -- ---- the line of a fault
 
--- there is none of a list before the lines are read
-pub stops_names : (lines : List (List ℕ)) (numbers : List NumberedLine) (fault : TextFault) → Stops lines fault → NamesLine numbers fault
-stops_names lines numbers (Grammar line column what) stops = tt
-stops_names lines numbers (Listed line fault) stops = absurd stops
-stops_names lines numbers Memory stops = tt
-
-pub listed_names : (lines slice : List OperationLine) (numbers : List NumberedLine) (told : TextFault) → slice ≡ lines → map line_shown lines ≡ numbers
-    → NamesLine (map line_shown slice) told → NamesLine numbers told
-listed_names lines slice numbers told same shown names = subst (λ ls. NamesLine ls told) (ap (map line_shown) same ∙ shown) names
+pub listed_names : (lines slice : List OperationLine) (numbers : List NumberedLine) (reported : TextFault) → slice ≡ lines → map line_shown lines ≡ numbers
+    → NamesLine (map line_shown slice) reported → NamesLine numbers reported
+listed_names lines slice numbers reported same shown names = subst (λ ls. NamesLine ls reported) (ap (map line_shown) same ∙ shown) names

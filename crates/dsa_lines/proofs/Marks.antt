@@ -1,30 +1,28 @@
--- The barriers of a text, and lists with barriers.
-use Rattle.std.proofs.Common.{◌≡◌, ◌≢◌, ℕ, zero, suc, ◌+◌, ◌<◌, Bool, true, false, Some, List, [], ◌∷◌, ◌++◌, length, take, drop, get_or, map, refl, sym, ap, ◌∙◌, append_assoc, length-append, arith}
+-- The barriers of a text, and the canonical text of a list.
+use Rattle.std.proofs.Common.{◌≡◌, ◌≢◌, inl, inr, ℕ, zero, suc, ◌+◌, ◌<◌, Bool, true, false, Some, List, [], ◌∷◌, ◌++◌, length, take, drop, get_or, map, refl, sym, ap, ◌∙◌, append_assoc, length-append, arith}
 use Rattle.std.specs.Prelude.{codes, slice_get, if◌then◌else◌}
-use Rattle.std.specs.List.{AllByRecursion, flat_map}
+use Rattle.std.specs.List.{AllByRecursion, list_any}
 use Rattle.std.specs.Str.{bytes_eq}
 use Rattle.std.proofs.lemmas.List.{append-nil, length-map}
 use Rattle.std.proofs.lemmas.Option.{same_Some}
 use Rattle.dsa_descriptor.proofs.Marked.{dropped}
-use Rattle.dsa_descriptor.specs.Lists.{AreOfOneOwner}
 use Rattle.dsa_descriptor.proofs.Seen.{barriers_count}
-use Rattle.dsa_descriptor.specs.Fences.{fenced, fenced_entries}
+use Rattle.dsa_descriptor.specs.Fences.{after_first, fenced, fenced_entries, set_marks}
 use Rattle.dsa_operations.specs.declared.operation.Operation.{Operation as AnyOperation}
 use Rattle.dsa_operations.specs.OperationFields.{OperationFields, AreListedFields, operation_fields}
 use Rattle.dsa_operations.specs.Operations.{spelling_of}
-use Rattle.dsa_lines.specs.Assembled.{IsListing}
 use Rattle.dsa_lines.specs.Words.{Word, words_in, words_of}
 use Rattle.dsa_lines.specs.Grammar.{fields_of, op_at, ◌>>=◌}
 use Rattle.dsa_lines.specs.Recordings.{at_end, batch_at}
 use Rattle.dsa_lines.specs.Text.{line_text}
 use Rattle.dsa_lines.specs.Texts.{all_fields, line_fields, lines_of, text_line, TextSpells}
-use Rattle.dsa_lines.specs.Barriers.{barrier_line, barriers_of, IsMarkedListing, LineKind, line_kind, line_marks, marked_text, marks_from, pending_after, OneMarkEach, OneMarkedSpelling, MarkedTextSpells}
+use Rattle.dsa_lines.specs.Barriers.{barrier_line, barriers_of, LineKind, line_kind, line_marks, list_text, marks_from, pending_after, OneMarkEach, OneMarkedSpelling, CanonicalTextSpells}
 use Rattle.dsa_lines.specs.Barriers.LineKind.{Other, Barrier, Fenced, Operation}
 use Rattle.dsa_lines.specs.TextLists.{numbered, operation_lines, OneLineEach}
 use Rattle.dsa_lines.proofs.WordLemmas.{same_word}
 use Rattle.dsa_lines.proofs.FencedOperations.{long_fenced, one_fenced}
 use Rattle.dsa_lines.proofs.LineLemmas.{canonical_is_line}
-use Rattle.dsa_lines.proofs.OneText.{bound, front, more_fields, spelled_is, spelled_list}
+use Rattle.dsa_lines.proofs.OneText.{bound, front, more_fields}
 use Rattle.dsa_lines.proofs.ReadAgain.{line_before, nothing}
 use Rattle.dsa_lines.proofs.RoundTrip.{line_spells}
 use Rattle.dsa_lines.proofs.TextLemmas.{barrier_spells_none, batch_spells_none, fence_spells_none, line_first, spelt_line}
@@ -43,8 +41,8 @@ no_marks keep pending = refl
 -- ---- the text of one operation more
 
 pub text_more : (fs : List OperationFields) (bs : List Bool) (i : ℕ) (f : OperationFields) → slice_get fs i ≡ Some f
-    → marked_text (take (i + 1) fs) bs ≡ marked_text (take i fs) bs ++ (barrier_line (get_or bs i false) ++ text_line f)
-unfolding marked_text
+    → list_text (take (i + 1) fs) bs ≡ list_text (take i fs) bs ++ (barrier_line (get_or bs i false) ++ text_line f)
+unfolding list_text
 text_more [] bs i f h = cc
 text_more (x ∷ xs) bs zero f h =
     ap (λ (t : List ℕ). barrier_line (get_or bs 0 false) ++ t) (append-nil (text_line x))
@@ -52,9 +50,9 @@ text_more (x ∷ xs) bs zero f h =
 text_more (x ∷ xs) bs (suc i) f h =
     let next : suc i + 1 ≡ suc (i + 1) = omega arith in
     let barrier : List ℕ = barrier_line (get_or bs 0 false) in
-    let rest : List ℕ = marked_text (take i xs) (drop 1 bs) in
+    let rest : List ℕ = list_text (take i xs) (drop 1 bs) in
     let last : List ℕ = barrier_line (get_or (drop 1 bs) i false) ++ text_line f in
-    ap (λ (n : ℕ). marked_text (take n (x ∷ xs)) bs) next
+    ap (λ (n : ℕ). list_text (take n (x ∷ xs)) bs) next
     ∙ ap (λ (t : List ℕ). barrier ++ (text_line x ++ t)) (text_more xs (drop 1 bs) i f h)
     ∙ ap (λ (t : List ℕ). barrier ++ t) (sym (append_assoc (text_line x) rest last))
     ∙ sym (append_assoc barrier (text_line x ++ rest) last)
@@ -66,21 +64,9 @@ field_at [] i o lt is = absurd (omega arith)
 field_at (x ∷ xs) zero o lt is = ap (λ (y : AnyOperation). Some (operation_fields y)) (sym is)
 field_at (x ∷ xs) (suc i) o lt is = field_at xs i o (omega arith) is
 
-pub none_written : (bs : List Bool) → marked_text [] bs ≡ []
-unfolding marked_text
+pub none_written : (bs : List Bool) → list_text [] bs ≡ []
+unfolding list_text
 none_written bs = refl
-
--- ---- what assembling a list with barriers answers
-
-pub marked_listing : (keep : Bool) (lines : List (List ℕ)) (os : List AnyOperation) (marks : List Bool) (bytes : List ℕ) → IsListing lines (flat_map spelling_of os) → AreOfOneOwner spelling_of os
-    → marks ≡ barriers_of keep lines → bytes ≡ fenced_entries spelling_of os marks → IsMarkedListing keep lines bytes
-marked_listing keep lines os marks bytes listing owner are e =
-    record {
-      operations = os;
-      spelled = listing.spelled ∙ ap Some (spelled_list lines (map operation_fields listing.operations) os listing.spelled (spelled_is listing.operations ∙ sym listing.bytes_are));
-      one_owner = owner;
-      bytes_are = e ∙ ap (fenced_entries spelling_of os) are;
-    }
 
 -- ---- a mark for each operation
 
@@ -149,16 +135,12 @@ pub one_line_each : OneLineEach
 one_line_each text fs e = lines_numbered 1 false (lines_of text) ∙ one_mark_each false text fs e
 
 -- the barriers of a text are none, or there is a mark for each operation
-pub marks_count : (keep : Bool) (text : List ℕ) (os : List AnyOperation) (barriers : List Bool) → IsListing (lines_of text) (flat_map spelling_of os) → barriers ≡ barriers_of keep (lines_of text)
+pub marks_count : (keep : Bool) (text : List ℕ) (os : List AnyOperation) (barriers : List Bool) → TextSpells text (map operation_fields os) → barriers ≡ barriers_of keep (lines_of text)
     → barriers ≢ [] → length barriers ≡ length os
-marks_count keep text os barriers listing is =
-    let same : map operation_fields listing.operations ≡ map operation_fields os =
-    spelled_list (lines_of text) (map operation_fields listing.operations) os listing.spelled (spelled_is listing.operations ∙ sym listing.bytes_are) in
-    let count : length (marks_from keep false (lines_of text)) ≡ length os =
-    one_mark_each keep text (map operation_fields listing.operations) listing.spelled ∙ ap length same ∙ length-map os operation_fields in
-    barriers_count barriers (marks_from keep false (lines_of text)) (length os) is count
+marks_count keep text os barriers spelled is =
+    barriers_count barriers (marks_from keep false (lines_of text)) (length os) is (one_mark_each keep text (map operation_fields os) spelled ∙ length-map os operation_fields)
 
--- ---- the canonical text of a list with barriers
+-- ---- the canonical text of a list
 
 kind_by : (batch barrier fence : Bool) (w : Word) (ws : List Word) (f : OperationFields) → bytes_eq w (codes "batch") ≡ batch → bytes_eq w (codes "barrier") ≡ barrier
     → bytes_eq w (codes "fence") ≡ fence → fields_of (w ∷ ws) ≡ Some f → line_kind (w ∷ ws) ≡ Operation
@@ -193,12 +175,12 @@ spells_marked : (m : Bool) (rest : List ℕ) (fs : List OperationFields) → Tex
 spells_marked false rest fs e = e
 spells_marked true rest fs e = line_before (codes "barrier") rest [] fs refl barrier_spells e
 
-marked_spells : (fs : List OperationFields) (marks : List Bool) → AllByRecursion AreListedFields fs → TextSpells (marked_text fs marks) fs
-unfolding marked_text
+marked_spells : (fs : List OperationFields) (marks : List Bool) → AllByRecursion AreListedFields fs → TextSpells (list_text fs marks) fs
+unfolding list_text
 marked_spells [] marks all = nothing
 marked_spells (f ∷ fs) marks all =
-    spells_marked (get_or marks 0 false) (text_line f ++ marked_text fs (drop 1 marks)) (f ∷ fs)
-    (line_before (line_text f) (marked_text fs (drop 1 marks)) (f ∷ []) fs (canonical_is_line f all.0)
+    spells_marked (get_or marks 0 false) (text_line f ++ list_text fs (drop 1 marks)) (f ∷ fs)
+    (line_before (line_text f) (list_text fs (drop 1 marks)) (f ∷ []) fs (canonical_is_line f all.0)
     (spelt_line (words_of (line_text f)) f (line_spells f all.0)) (marked_spells fs (drop 1 marks) all.1))
 
 -- the mark of an operation whose line is before others
@@ -222,18 +204,37 @@ marked_first keep true f rest listed =
     ∙ operation_marks keep true f rest listed
 
 marks_again : (keep : Bool) (fs : List OperationFields) (marks : List Bool) → AllByRecursion AreListedFields fs → length marks ≡ length fs
-    → marks_from keep false (lines_of (marked_text fs marks)) ≡ marks
-unfolding marked_text
+    → marks_from keep false (lines_of (list_text fs marks)) ≡ marks
+unfolding list_text
 marks_again keep [] [] all e =
     ap (marks_from keep false) no_lines ∙ marks_next keep false [] []
     ∙ ap (λ (k : LineKind). line_marks keep false k ++ marks_from keep (pending_after false k) []) empty_kind ∙ no_marks keep false
 marks_again keep [] (m ∷ ms) all e = absurd (omega arith)
 marks_again keep (f ∷ fs) [] all e = absurd (omega arith)
 marks_again keep (f ∷ fs) (m ∷ ms) all e =
-    marked_first keep m f (marked_text fs ms) all.0 ∙ ap (λ (bs : List Bool). m ∷ bs) (marks_again keep fs ms all.1 (omega arith))
+    marked_first keep m f (list_text fs ms) all.0 ∙ ap (λ (bs : List Bool). m ∷ bs) (marks_again keep fs ms all.1 (omega arith))
 
-pub marked_text_spells : MarkedTextSpells
-marked_text_spells keep fs marks all e = (marked_spells fs marks all, marks_again keep fs marks all e)
+-- with no marks it has none
+none_marked : (keep : Bool) (fs : List OperationFields) → AllByRecursion AreListedFields fs → list_any (λ (mark : Bool). mark) (marks_from keep false (lines_of (list_text fs []))) ≡ false
+unfolding list_text
+none_marked keep [] all =
+    ap (list_any (λ (mark : Bool). mark)) (ap (marks_from keep false) no_lines ∙ marks_next keep false [] []
+    ∙ ap (λ (k : LineKind). line_marks keep false k ++ marks_from keep (pending_after false k) []) empty_kind ∙ no_marks keep false)
+none_marked keep (f ∷ fs) all =
+    ap (list_any (λ (mark : Bool). mark)) (marked_first keep false f (list_text fs []) all.0) ∙ none_marked keep fs all.1
+
+none_after : (marks : List Bool) → list_any (λ (mark : Bool). mark) marks ≡ false → set_marks (after_first marks) ≡ []
+none_after [] e = refl
+none_after (true ∷ marks) e = absurd cc
+none_after (false ∷ marks) e = rw e refl
+
+pub canonical_text_spells : CanonicalTextSpells
+canonical_text_spells keep fs marks all (inl none) = (
+  marked_spells fs marks all,
+  rw none (none_after (marks_from keep false (lines_of (list_text fs []))) (none_marked keep fs all)),
+)
+canonical_text_spells keep fs marks all (inr each) =
+    (marked_spells fs marks all, ap (λ (ms : List Bool). set_marks (after_first ms)) (marks_again keep fs marks all each))
 
 -- ---- the bytes of a list with barriers are those of no other
 

@@ -1,25 +1,18 @@
 -- The operations that a text spells are known by their bytes.
-use Rattle.std.proofs.Common.{◌≡◌, ℕ, ◌*◌, ◌/◌, ◌%◌, Bool, true, false, eqb, get_or, Option, List, [], ◌∷◌, ◌++◌, length, Some, None, refl, sym, ap, subst, ◌∙◌, length-append, arith}
+use Rattle.std.proofs.Common.{◌≡◌, ℕ, Bool, true, false, Option, List, [], ◌∷◌, ◌++◌, length, Some, None, refl, sym, ap, subst, ◌∙◌, length-append, arith}
 use Rattle.std.specs.Prelude.{codes, map, option_and_then, if◌then◌else◌}
 use Rattle.std.specs.Str.{bytes_eq}
-use Rattle.std.specs.List.{AllByRecursion, flat_map, list_any}
-use Rattle.std.specs.Simd.{first_chunks}
-use Rattle.std.proofs.lemmas.List.{take_at, drop_at}
+use Rattle.std.specs.List.{AllByRecursion, flat_map}
 use Rattle.std.proofs.lemmas.List.Folds.{flat_map-map}
 use Rattle.std.proofs.lemmas.Option.{same_Some}
-use Rattle.dsa_descriptor.specs.Fences.{is_fenced, unfenced_list}
-use Rattle.dsa_descriptor.specs.Lists.{AreOfOneOwner}
-use Rattle.dsa_descriptor.proofs.Listed.{lowest_of}
-use Rattle.dsa_descriptor.proofs.Plain.{unfenced_stays}
 use Rattle.dsa_operations.specs.declared.operation.Operation.{Operation}
 use Rattle.dsa_operations.specs.OperationFields.{OperationFields, all_spelled, fields_spelling, operation_fields}
 use Rattle.dsa_operations.specs.Operations.{spelling_of}
-use Rattle.dsa_operations.proofs.Same.{flags_spelt, long_fields, operation_fits, operation_plain, same_fields}
+use Rattle.dsa_operations.proofs.Same.{long_fields, operation_fits, operation_plain, same_fields}
 use Rattle.dsa_lines.specs.Words.{Word, words_of}
 use Rattle.dsa_lines.specs.Grammar.{fields_of, ◌>>=◌}
 use Rattle.dsa_lines.specs.Recordings.{at_end, batch_at}
 use Rattle.dsa_lines.proofs.OneLine.{AreOfLine, words_spelt}
-use Rattle.dsa_lines.specs.Assembled.{IsListing}
 use Rattle.dsa_lines.specs.Texts.{all_fields, line_fields, lines_of, with_fields, TextSpells}
 
 -- ---- the operations of lines fit their places
@@ -68,7 +61,7 @@ lines_fit (line ∷ lines) fs e =
     let more = more_fields here.0 fs (all_fields lines) here.2 in
     subst (AllByRecursion AreOfLine) more.2 (all_append here.0 more.0 (line_fits (words_of line) here.0 here.1) (lines_fit lines more.0 more.1))
 
--- so do those of operations, and they have no fence
+-- so do those of operations
 all_of_line : (os : List Operation) → AllByRecursion AreOfLine (map operation_fields os)
 all_of_line [] = tt
 all_of_line (o ∷ os) = ((operation_fits o, operation_plain o), all_of_line os)
@@ -110,49 +103,7 @@ spelled_list lines fs os e same = one_list fs (map operation_fields os) (lines_f
 pub spells_list : (text : List ℕ) (fs : List OperationFields) (os : List Operation) → TextSpells text fs → all_spelled fs ≡ flat_map spelling_of os → fs ≡ map operation_fields os
 spells_list text fs os e same = spelled_list (lines_of text) fs os e same
 
--- lines whose bytes are those of a list spell it
-pub listed : (lines : List (List ℕ)) (bytes : List ℕ) (fs : List OperationFields) (os : List Operation) → all_fields lines ≡ Some fs → bytes ≡ all_spelled fs
-    → bytes ≡ flat_map spelling_of os → AreOfOneOwner spelling_of os → IsListing lines bytes
-listed lines bytes fs os e here found owner =
-    record {
-      operations = os;
-      spelled = e ∙ ap Some (spelled_list lines fs os e (sym here ∙ found));
-      one_owner = owner;
-      bytes_are = found;
-    }
-
--- the same of the bytes of these operations
-pub listed_operations : (lines : List (List ℕ)) (bytes : List ℕ) (fs : List OperationFields) (os : List Operation) → all_fields lines ≡ Some fs → bytes ≡ all_spelled fs
-    → bytes ≡ flat_map spelling_of os → AreOfOneOwner spelling_of os → IsListing lines (flat_map spelling_of os)
-listed_operations lines bytes fs os e here found owner = subst (IsListing lines) found (listed lines bytes fs os e here found owner)
-
--- ---- their bytes have no fence
-
-plain_spelling : (f : OperationFields) → AreOfLine f → is_fenced (fields_spelling f) ≡ false
-plain_spelling f h =
-    let even : get_or (fields_spelling f) 4 0 % 2 ≡ 0 = sym (lowest_of (fields_spelling f)) ∙ ap (λ (n : ℕ). n % 2) (flags_spelt f h.0) ∙ h.1 in
-    ap (λ (n : ℕ). eqb n 1) even
-
-none_fenced : (fs : List OperationFields) → AllByRecursion AreOfLine fs → list_any is_fenced (first_chunks 64 (length fs) (all_spelled fs)) ≡ false
-none_fenced [] h = refl
-none_fenced (f ∷ fs) h =
-    rw (
-      take_at (fields_spelling f) (all_spelled fs) 64 (long_fields f h.0.0),
-      drop_at (fields_spelling f) (all_spelled fs) 64 (long_fields f h.0.0),
-      plain_spelling f h.0,
-    ) (none_fenced fs h.1)
-
-spelled_length : (fs : List OperationFields) → AllByRecursion AreOfLine fs → length (all_spelled fs) ≡ 64 * length fs
-spelled_length [] h = refl
-spelled_length (f ∷ fs) h = omega (arith, length-append (fields_spelling f) (all_spelled fs), long_fields f h.0.0, spelled_length fs h.1)
-
--- so they are read as they are
-pub unfenced_lines : (lines : List (List ℕ)) (fs : List OperationFields) → all_fields lines ≡ Some fs → unfenced_list (all_spelled fs) ≡ all_spelled fs
-unfenced_lines lines fs e =
-    let fit = lines_fit lines fs e in
-    let count : length (all_spelled fs) / 64 ≡ length fs = omega (arith, spelled_length fs fit) in
-    unfenced_stays (all_spelled fs) (ap (λ (n : ℕ). list_any is_fenced (first_chunks 64 n (all_spelled fs))) count ∙ none_fenced fs fit)
-
--- what is read of the bytes of lines
-pub seen_plain : (lines : List (List ℕ)) (seen bytes : List ℕ) (fs : List OperationFields) → all_fields lines ≡ Some fs → seen ≡ bytes → bytes ≡ all_spelled fs → unfenced_list seen ≡ bytes
-seen_plain lines seen bytes fs e same spelled = ap unfenced_list (same ∙ spelled) ∙ unfenced_lines lines fs e ∙ sym spelled
+-- lines whose bytes are those of operations spell these
+pub spelled_now : (lines : List (List ℕ)) (bytes : List ℕ) (fs : List OperationFields) (os : List Operation) → all_fields lines ≡ Some fs → bytes ≡ all_spelled fs
+    → bytes ≡ flat_map spelling_of os → all_fields lines ≡ Some (map operation_fields os)
+spelled_now lines bytes fs os e here found = e ∙ ap Some (spelled_list lines fs os e (sym here ∙ found))

@@ -388,6 +388,13 @@ unfolding line_text
 line_is (OfDescriptor f) = op_append f.op f.size (fields_later (OfDescriptor f))
 line_is (OfChecksum f) = checksum_append f.op f.size (fields_later (OfChecksum f))
 
+-- so of a line whose operation may be of either kind
+pub line_by : (op : LineOp) (pasid : ℕ) (privileged : Bool) (flags record_at size int_handle : ℕ)
+    → line_text (fields_by op pasid privileged flags record_at size int_handle)
+    ≡ text_of (operation_words (fields_by op pasid privileged flags record_at size int_handle)) ++ tail_text (later_words record_at pasid privileged flags int_handle)
+line_by (line_op.Descriptor op) pasid privileged flags record_at size int_handle = line_is (fields_by (line_op.Descriptor op) pasid privileged flags record_at size int_handle)
+line_by (line_op.Checksum op) pasid privileged flags record_at size int_handle = line_is (fields_by (line_op.Checksum op) pasid privileged flags record_at size int_handle)
+
 five_tails : (a b c d e : List Word) → tail_text (a ++ (b ++ (c ++ (d ++ e)))) ≡ tail_text a ++ (tail_text b ++ (tail_text c ++ (tail_text d ++ tail_text e)))
 five_tails a b c d e = rw (tail_append a (b ++ (c ++ (d ++ e))), tail_append b (c ++ (d ++ e)), tail_append c (d ++ e), tail_append d e) refl
 

@@ -1,21 +1,16 @@
 -- The lines of a text, and the operations of its lines.
-use Rattle.std.proofs.Common.{◌≡◌, ℕ, suc, ◌+◌, ◌-◌, ◌<◌, ◌≤◌, Bool, true, false, Option, Some, None, List, [], ◌∷◌, ◌++◌, length, get_or, take, drop, refl, sym, ap, ◌∙◌, append_assoc, arith}
-use Rattle.std.specs.Prelude.{codes, map, not, ◌==◌, ◌&&◌}
+use Rattle.std.proofs.Common.{◌≡◌, ℕ, suc, ◌+◌, ◌-◌, ◌<◌, ◌≤◌, Bool, true, false, Option, Some, None, List, [], ◌∷◌, ◌++◌, length, take, drop, refl, sym, ap, ◌∙◌, append_assoc, arith}
+use Rattle.std.specs.Prelude.{codes, not, ◌==◌, ◌&&◌}
 use Rattle.std.specs.Str.{bytes_eq}
-use Rattle.std.specs.List.{AllByRecursion}
 use Rattle.std.proofs.Math.Seq.{take-length}
-use Rattle.std.proofs.lemmas.List.{append-nil, length-drop, length-take-le, map-append, take_more}
-use Rattle.dsa_operations.specs.declared.operation.Operation.{Operation}
-use Rattle.dsa_operations.specs.OperationFields.{OperationFields, AreListedFields, all_spelled, fields_spelling, operation_fields}
-use Rattle.dsa_operations.proofs.Same.{listed_of}
-use Rattle.dsa_lines.specs.Words.{Word, words_in, words_of}
+use Rattle.std.proofs.lemmas.List.{append-nil, length-drop, length-take-le}
+use Rattle.dsa_operations.specs.OperationFields.{OperationFields, all_spelled, fields_spelling}
+use Rattle.dsa_lines.specs.Words.{Word, words_of}
 use Rattle.dsa_lines.specs.Grammar.{op_at, fields_of, ◌>>=◌}
-use Rattle.dsa_lines.specs.Text.{line_text}
 use Rattle.dsa_lines.proofs.WordLemmas.{both, same_word}
-use Rattle.dsa_lines.proofs.RoundTrip.{line_spells}
-use Rattle.dsa_lines.specs.Texts.{with_byte, lines_of, line_fields, with_fields, all_fields, TextSpells, text_line, list_text, line_len, lines_after}
-use Rattle.dsa_lines.specs.Assembled.{LeavesGrammarAt}
-use Rattle.dsa_lines.proofs.LineLemmas.{is_line, canonical_is_line}
+use Rattle.dsa_lines.specs.Texts.{with_byte, lines_of, line_fields, with_fields, all_fields, line_len, lines_after}
+use Rattle.dsa_lines.specs.TextLists.{LeavesGrammarAt}
+use Rattle.dsa_lines.proofs.LineLemmas.{is_line}
 
 -- ---- lines
 
@@ -72,21 +67,6 @@ unfolding fields_of op_at
 spelt_line [] f e = absurd cc
 spelt_line (w ∷ ws) f e = line_by_word (bytes_eq w (codes "batch")) (bytes_eq w (codes "barrier")) (bytes_eq w (codes "fence")) w ws f refl refl refl e
 
-next_line : (f : OperationFields) (fs : List OperationFields) → AreListedFields f → all_fields (lines_of (list_text fs)) ≡ Some fs
-    → all_fields (lines_of (line_text f ++ (10 ∷ list_text fs))) ≡ Some (f ∷ fs)
-unfolding all_fields
-next_line f fs listed so_far =
-    ap all_fields (line_first (line_text f) (list_text fs) (canonical_is_line f listed))
-    ∙ rw (spelt_line (words_of (line_text f)) f (line_spells f listed), so_far) refl
-
--- the canonical text of listed fields spells them
-pub text_spells : (fs : List OperationFields) → AllByRecursion AreListedFields fs → TextSpells (list_text fs) fs
-unfolding list_text lines_of all_fields words_in line_fields
-text_spells [] all = refl
-text_spells (f ∷ fs) all =
-    ap (λ (t : List ℕ). all_fields (lines_of t)) (append_assoc (line_text f) (10 ∷ []) (list_text fs))
-    ∙ next_line f fs all.0 (text_spells fs all.1)
-
 -- ---- for the loops
 
 pub spelling_append : (fs gs : List OperationFields) → all_spelled (fs ++ gs) ≡ all_spelled fs ++ all_spelled gs
@@ -100,10 +80,6 @@ with_none (Some more) = refl
 with_more : (fs gs : List OperationFields) (o : Option (List OperationFields)) → with_fields fs (with_fields gs o) ≡ with_fields (fs ++ gs) o
 with_more fs gs None = refl
 with_more fs gs (Some more) = ap Some (sym (append_assoc fs gs more))
-
-pub all_listed : (os : List Operation) → AllByRecursion AreListedFields (map operation_fields os)
-all_listed [] = tt
-all_listed (o ∷ os) = (listed_of o, all_listed os)
 
 fields_then : (here first rest : Option (List OperationFields))
     → (here >>= λ h. with_fields h (first >>= λ f. with_fields f rest)) ≡ ((here >>= λ h. with_fields h first) >>= λ f. with_fields f rest)
@@ -143,28 +119,6 @@ leaves_none lines number leaves =
     ∙ ap (λ (o : Option (List OperationFields)). o >>= λ fs. with_fields fs (all_fields (leaves.line ∷ leaves.after))) leaves.spelled.1
     ∙ ap (with_fields leaves.spelled.0) (no_line leaves.line leaves.after leaves.outside)
 
-text_append : (fs gs : List OperationFields) → list_text (fs ++ gs) ≡ list_text fs ++ list_text gs
-unfolding list_text
-text_append [] gs = refl
-text_append (f ∷ fs) gs = rw (text_append fs gs) (sym (append_assoc (text_line f) (list_text fs) (list_text gs)))
-
-one_text : (f : OperationFields) → list_text (f ∷ []) ≡ text_line f
-unfolding list_text
-one_text f = append-nil (text_line f)
-
--- the text of one operation more
-pub text_more : {A : Type 0} (of : A → OperationFields) (xs : List A) (i : ℕ) (x : A) → i < length xs → x ≡ get_or xs i x
-    → list_text (map of (take (i + 1) xs)) ≡ list_text (map of (take i xs)) ++ text_line (of x)
-text_more {A} of xs i x lt e =
-    ap (λ (l : List A). list_text (map of l)) (take_more xs i x lt)
-    ∙ ap list_text (map-append of (take i xs) (get_or xs i x ∷ []))
-    ∙ text_append (map of (take i xs)) (of (get_or xs i x) ∷ [])
-    ∙ ap (λ (t : List ℕ). list_text (map of (take i xs)) ++ t) (one_text (of (get_or xs i x)) ∙ ap (λ (y : A). text_line (of y)) (sym e))
-
-pub no_text : list_text [] ≡ []
-unfolding list_text
-no_text = refl
-
 after_newline : (back : List ℕ) → 1 ≤ length back → lines_after back ≡ lines_of (take (length back - 1) (drop 1 back))
 after_newline [] lt = absurd (omega arith)
 after_newline (c ∷ cs) lt = ap lines_of (sym (whole cs))
@@ -201,6 +155,3 @@ no_lines (c ∷ cs) lt = absurd (omega arith)
 pub last_line : (rest line back : List ℕ) (n : ℕ) → n ≡ line_len rest → line ≡ take n rest → back ≡ drop n rest → length back < 1
     → lines_of rest ≡ line ∷ []
 last_line rest line back n e f g lt = first_line rest line back n e f g ∙ ap (λ (ls : List (List ℕ)). line ∷ ls) (no_lines back lt)
-
-pub text_is_read : (os : List Operation) (text : List ℕ) → text ≡ list_text (map operation_fields os) → all_fields (lines_of text) ≡ Some (map operation_fields os)
-text_is_read os text e = ap (λ (t : List ℕ). all_fields (lines_of t)) e ∙ text_spells (map operation_fields os) (all_listed os)

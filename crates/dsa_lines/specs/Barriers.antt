@@ -1,18 +1,14 @@
 -- The barriers of a list as text: a line `barrier` before an operation, or, if fences are kept, the word `fence` before it
--- in its line. In bytes the operation after a barrier has the flag 0x0001, fence (specification 341204). That lists have
--- barriers is this project's choice.
-use Rattle.std.specs.Prelude.{◌≡◌, ℕ, ◌||◌, Bool, true, false, List, [], ◌∷◌, ◌++◌, drop, length, map, slice_index_or, codes, Some, Result, Ok, Err, if◌then◌else◌}
+-- in its line; and the canonical text of a list. That lists have barriers is this project's choice.
+use Rattle.std.specs.Prelude.{◌≡◌, ◌⊎◌, ℕ, ◌||◌, Bool, true, false, List, [], ◌∷◌, ◌++◌, drop, length, slice_index_or, codes, if◌then◌else◌}
 use Rattle.std.specs.List.{AllByRecursion}
 use Rattle.std.specs.Str.{bytes_eq}
 use Rattle.dsa_descriptor.specs.Fences.{after_first, fenced_entries, set_marks}
-use Rattle.dsa_descriptor.specs.Lists.{AreOfOneOwner}
 use Rattle.dsa_operations.specs.declared.operation.Operation.{Operation as AnyOperation}
-use Rattle.dsa_operations.specs.OperationFields.{OperationFields, AreListedFields, operation_fields}
+use Rattle.dsa_operations.specs.OperationFields.{OperationFields, AreListedFields}
 use Rattle.dsa_operations.specs.Operations.{spelling_of}
-use Rattle.dsa_lines.specs.declared.fault.TextFault.{TextFault}
 use Rattle.dsa_lines.specs.Words.{Word, words_of}
-use Rattle.dsa_lines.specs.Texts.{all_fields, lines_of, text_line, TextSpells}
-use Rattle.dsa_lines.specs.Assembled.{IsAssemblyFault}
+use Rattle.dsa_lines.specs.Texts.{lines_of, text_line, TextSpells}
 
 -- what a line of the grammar has: a barrier, a fenced operation, an operation, or none of these
 pub data LineKind : Type 0 where
@@ -53,28 +49,16 @@ marks_from keep pending (line ∷ lines) =
 abbrev pub barriers_of : Bool → List (List ℕ) → List Bool
 barriers_of keep lines = set_marks (after_first (marks_from keep false lines))
 
--- ---- a list with barriers
+-- ---- the canonical text
 
 -- the line of a barrier
 abbrev pub barrier_line : Bool → List ℕ
 barrier_line mark = if mark then codes "barrier\n" else []
 
--- its canonical text
-unfoldable pub marked_text : List OperationFields → List Bool → List ℕ
-marked_text [] marks = []
-marked_text (f ∷ fs) marks = barrier_line (slice_index_or marks 0 false) ++ (text_line f ++ marked_text fs (drop 1 marks))
-
--- the lines spell a list, and these are its bytes with the barriers
-pub record IsMarkedListing (keep : Bool) (lines : List (List ℕ)) (bytes : List ℕ) : Type 0 where
-  pub operations : List AnyOperation
-  pub spelled : all_fields lines ≡ Some (map operation_fields operations)
-  pub one_owner : AreOfOneOwner spelling_of operations
-  pub bytes_are : bytes ≡ fenced_entries spelling_of operations (barriers_of keep lines)
-
--- if the lines spell a list, its bytes with the barriers; else the fault of assembling the list without them
-abbrev pub AssemblesMarked : {X : Type 0} → (X → List ℕ) → Bool → List (List ℕ) → Result X TextFault → Type 0
-AssemblesMarked shown keep lines (Ok bytes) = IsMarkedListing keep lines (shown bytes)
-AssemblesMarked shown keep lines (Err fault) = IsAssemblyFault lines fault
+-- the lines of operations, each after that of a barrier if it is marked
+unfoldable pub list_text : List OperationFields → List Bool → List ℕ
+list_text [] marks = []
+list_text (f ∷ fs) marks = barrier_line (slice_index_or marks 0 false) ++ (text_line f ++ list_text fs (drop 1 marks))
 
 -- ---- laws
 
@@ -84,11 +68,12 @@ OneMarkEach =
     (keep : Bool) (text : List ℕ) (fs : List OperationFields) → TextSpells text fs →
     length (marks_from keep false (lines_of text)) ≡ length fs
 
--- the canonical text of listed fields and their marks spells both
-abbrev pub MarkedTextSpells : Type 0
-MarkedTextSpells =
-    (keep : Bool) (fs : List OperationFields) (marks : List Bool) → AllByRecursion AreListedFields fs → length marks ≡ length fs →
-    TextSpells (marked_text fs marks) fs × (marks_from keep false (lines_of (marked_text fs marks)) ≡ marks)
+-- the canonical text of listed fields, with a mark for each or with none, spells them and the barriers that were marked
+abbrev pub CanonicalTextSpells : Type 0
+CanonicalTextSpells =
+    (keep : Bool) (fs : List OperationFields) (marks : List Bool) → AllByRecursion AreListedFields fs →
+    (marks ≡ []) ⊎ (length marks ≡ length fs) →
+    TextSpells (list_text fs marks) fs × (barriers_of keep (lines_of (list_text fs marks)) ≡ set_marks (after_first marks))
 
 -- the bytes of operations and their marks are those of no others
 abbrev pub OneMarkedSpelling : Type 0

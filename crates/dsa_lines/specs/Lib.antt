@@ -6,7 +6,6 @@ pub mod Text
 pub mod Views
 pub mod Answers
 pub mod Texts
-pub mod Assembled
 pub mod Recordings
 pub mod Portals
 pub mod Stagings

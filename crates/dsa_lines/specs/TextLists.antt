@@ -1,6 +1,9 @@
 -- What one walk over the lines of a text gives: the operations, their marks, and the line of each (this project's choice).
-use Rattle.std.specs.Prelude.{◌≡◌, ⊤, ℕ, ◌+◌, Bool, true, false, List, [], ◌∷◌, ◌++◌, length, map, slice_index_or, Some, None, Result, Ok, Err}
+use Rattle.std.specs.Prelude.{◌≡◌, ◌≢◌, ⊤, ℕ, ◌+◌, Bool, true, false, List, [], ◌∷◌, ◌++◌, length, map, slice_index_or, Option, Some, None, Result, Ok, Err}
+use Rattle.dsa_descriptor.specs.declared.fault.ListFault.{ListFault}
 use Rattle.dsa_descriptor.specs.declared.fault.ListFault.TheVariants.{Field, Length, Memory as ListMemory, MixedPasid}
+use Rattle.dsa_descriptor.specs.Lists.{IsFirstFaultBy}
+use Rattle.dsa_operations.specs.Faults.{OperationKeeps}
 use Rattle.dsa_operations.specs.OperationFields.{OperationFields, all_spelled, fields_spelling}
 use Rattle.dsa_lines.specs.declared.fault.TextFault.{TextFault}
 use Rattle.dsa_lines.specs.declared.fault.TextFault.TheVariants.{Grammar, List as Listed, Memory}
@@ -10,7 +13,6 @@ use Rattle.dsa_lines.specs.declared.text_list.Gathered.{Gathered}
 use Rattle.dsa_lines.specs.declared.text_list.OperationLine.{OperationLine}
 use Rattle.dsa_lines.specs.Words.{Word, words_of}
 use Rattle.dsa_lines.specs.Texts.{all_fields, line_fields, lines_of, TextSpells}
-use Rattle.dsa_lines.specs.Assembled.{Stops, StopsAt}
 use Rattle.dsa_lines.specs.Barriers.{LineKind, line_kind, line_marks, marks_from, pending_after}
 use Rattle.dsa_lines.specs.Barriers.LineKind.{Other, Barrier, Fenced, Operation}
 
@@ -49,12 +51,54 @@ NamesLine lines (Listed line (MixedPasid operation)) = line ≡ line_number line
 NamesLine lines (Listed line ListMemory) = ⊤
 NamesLine lines Memory = ⊤
 
+-- ---- why a text lists no operations
+
+-- the line of this number, from 1 on, is the first that leaves the grammar: it has words that spell
+-- no fields, and the lines before it spell operations
+pub record LeavesGrammarAt (lines : List (List ℕ)) (number : ℕ) : Type 0 where
+  pub before : List (List ℕ)
+  pub line : List ℕ
+  pub after : List (List ℕ)
+  pub lines_are : lines ≡ before ++ line ∷ after
+  pub number_is : number ≡ length before + 1
+  pub spelled : (fs : List OperationFields) × (all_fields before ≡ Some fs)
+  pub outside : line_fields (words_of line) ≡ None
+
+-- the first line that leaves the grammar; or, if all lines spell operations, the first fault of these as a list, which is no
+-- allocation failure, with the line of the operation that it names; or that an allocation failed
+abbrev pub IsFirstTextFault : List (List ℕ) → TextFault → Type 0
+IsFirstTextFault lines (Grammar line column what) = LeavesGrammarAt lines line
+IsFirstTextFault lines (Listed line fault) =
+    (fs : List OperationFields) × (all_fields lines ≡ Some fs) × IsFirstFaultBy OperationKeeps (all_spelled fs) fault
+    × (fault ≢ ListMemory) × NamesLine (operation_lines 1 lines) (Listed line fault)
+IsFirstTextFault lines Memory = ⊤
+
+-- ---- laws
+
 -- a text that spells operations has a line for each
 abbrev pub OneLineEach : Type 0
 OneLineEach =
     (text : List ℕ) (fs : List OperationFields) → TextSpells text fs → length (operation_lines 1 (lines_of text)) ≡ length fs
 
 -- ---- for private clauses
+
+-- a fault of a list with some line, or that memory ran out
+abbrev pub IsTextFault : ListFault → TextFault → Type 0
+IsTextFault fault (Grammar line column what) = ⊥
+IsTextFault fault (Listed line listed) = (listed ≡ fault) × (fault ≢ ListMemory)
+IsTextFault fault Memory = fault ≡ ListMemory
+
+-- why lines spell no operations
+abbrev pub Stops : List (List ℕ) → TextFault → Type 0
+Stops lines (Grammar line column what) = LeavesGrammarAt lines line
+Stops lines (Listed line fault) = ⊥
+Stops lines Memory = ⊤
+
+-- why the line of this number spells none; `read` is what it spells
+abbrev pub StopsAt : ℕ → Option (List OperationFields) → TextFault → Type 0
+StopsAt number read (Grammar line column what) = (line ≡ number) × (read ≡ None)
+StopsAt number read (Listed line fault) = ⊥
+StopsAt number read Memory = ⊤
 
 -- what a line of an operation is by its first word
 abbrev pub operation_kind : Bool → LineKind

@@ -1,4 +1,4 @@
--- The operations that a text spells, and the canonical text of a list.
+-- The operations that a text spells, and the canonical line of one.
 use Rattle.std.specs.Prelude.{◌≡◌, ℕ, suc, ◌==◌, List, [], ◌∷◌, ◌++◌, codes, Option, Some, None, if◌then◌else◌}
 use Rattle.std.specs.Str.{bytes_eq}
 use Rattle.dsa_operations.specs.OperationFields.{OperationFields}
@@ -44,11 +44,6 @@ TextSpells text fs = all_fields (lines_of text) ≡ Some fs
 -- the canonical line and a newline
 abbrev pub text_line : OperationFields → List ℕ
 text_line f = line_text f ++ 10 ∷ []
-
--- the canonical text
-unfoldable pub list_text : List OperationFields → List ℕ
-list_text [] = []
-list_text (f ∷ fs) = text_line f ++ list_text fs
 
 -- ---- for private clauses
 

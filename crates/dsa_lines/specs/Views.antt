@@ -11,6 +11,6 @@ abbrev pub first_word : Option (Bor (List ℕ) × Bor (List ℕ)) → List Word
 first_word None = []
 first_word (Some x) = x.0.now ∷ words_of x.1.now
 
--- the fields that a line spells
+-- the fields of a line
 abbrev pub view : Line → OperationFields
 view l = fields_by l.op l.pasid l.privileged l.flags l.record_at l.size l.int_handle

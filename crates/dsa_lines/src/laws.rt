@@ -7,7 +7,8 @@ ghost use Rattle.dsa_operations.specs.OperationFields.{OperationFields, AreListe
 ghost use Rattle.dsa_operations.specs.Operations.{spelling_of};
 ghost use Rattle.dsa_lines.specs.Grammar.{Spells};
 ghost use Rattle.dsa_lines.specs.Text.{line_text};
-ghost use Rattle.dsa_lines.specs.Texts.{TextSpells, list_text};
+ghost use Rattle.dsa_lines.specs.Texts.{TextSpells};
+ghost use Rattle.dsa_lines.specs.Barriers.{CanonicalTextSpells, OneMarkEach, OneMarkedSpelling};
 
 /// A line spells one set of fields at most, and lines that spell fields of the same bytes spell the
 /// same fields.
@@ -57,9 +58,19 @@ pub fn one_text_one_list()
         fs ≡ map operation_fields os }
 {}
 
-/// The canonical text of listed fields spells them.
-#[tactic(auto, using(crate::proofs::TextLemmas::text_spells))]
+/// The canonical text of listed fields, with a mark for each or with none, spells them and the barriers that were marked.
 pub fn canonical_text_spells()
-    ensures { (fs : List OperationFields) → AllByRecursion AreListedFields fs →
-        TextSpells (list_text fs) fs }
+    ensures { CanonicalTextSpells }
+{}
+
+/// A text that spells operations has a mark for each.
+#[tactic(auto, using(crate::proofs::Marks::one_mark_each))]
+pub fn one_mark_each()
+    ensures { OneMarkEach }
+{}
+
+/// The bytes of operations and their marks are those of no others.
+#[tactic(auto, using(crate::proofs::Marks::one_marked_spelling))]
+pub fn one_marked_spelling()
+    ensures { OneMarkedSpelling }
 {}

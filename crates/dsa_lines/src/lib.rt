@@ -2,11 +2,9 @@
 //! texts: a list of operations as lines, and back; and the texts of a portal and a staging area.
 #![tactic(auto)]
 
-mod assembling;
 mod disassembling;
 mod emitted_laws;
 mod fault;
-mod fenced;
 mod laws;
 mod line;
 mod lines;
@@ -25,17 +23,17 @@ mod text_list;
 mod words;
 mod writing;
 
-pub use assembling::{assemble, assemble_fenced};
-pub use disassembling::disassemble;
+pub use disassembling::{disassemble, text_with_barriers};
 pub use emitted_laws::emissions_have_texts;
 pub use fault::{EmittedFault, Expected, LineFault, TextFault};
-pub use fenced::{marked_text_spells, one_mark_each, one_marked_spelling, text_with_barriers};
 pub use laws::{
     canonical_line_spells, canonical_text_spells, one_line_no_newline, one_line_one_operation,
-    one_text_one_list, spells_one, text_spells_one,
+    one_mark_each, one_marked_spelling, one_text_one_list, spells_one, text_spells_one,
 };
+pub use line::Line;
 pub use list_line::operation_bytes;
 pub use numbers::{number_of, size_of};
+pub use operations::LineOp;
 pub use portal::disassemble_portal;
 pub use portal_laws::{
     one_portal_shown, one_portal_text, portal_text_is_read, portal_text_is_recorded,
@@ -47,4 +45,4 @@ pub use staging_laws::{
     one_staging_shown, one_staging_text, staging_text_is_read, staging_text_is_recorded,
 };
 pub use text_list::{OperationLine, TextList, line_of_operation, one_line_each, parse_text};
-pub use writing::{line_of, op_text, operation_line, operation_text};
+pub use writing::{line_of, line_of_fields, op_text, operation_text};

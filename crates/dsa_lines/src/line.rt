@@ -3,26 +3,59 @@
 ghost use Rattle.std.specs.Prelude.{◌≡◌, ◌+◌, ◌*◌, ◌<◌, ◌^◌, if◌then◌else◌};
 ghost use Rattle.dsa_descriptor.specs.Operands.{code_of};
 ghost use Rattle.dsa_descriptor.specs.Spelling.{spelling};
-ghost use Rattle.dsa_operations.specs.OperationFields.{fields_spelling};
+ghost use Rattle.dsa_operations.specs.OperationFields.{fields_spelling, operation_fields};
 ghost use Rattle.dsa_lines.specs.Views.{view};
 
 use crate::operations::LineOp;
 use dsa_descriptor::Op;
-use dsa_operations::checksum_bytes;
+use dsa_operations::{Operation, checksum_bytes};
 
-/// The fields that a line spells, which need not be those of a listed operation.
+/// The fields of a line, which need not be those of a listed operation.
 #[derive(Clone, Copy)]
-pub(crate) struct Line {
-    pub(crate) pasid: u32,
-    pub(crate) privileged: bool,
-    pub(crate) flags: u32,
-    pub(crate) record_at: u64,
-    pub(crate) size: u32,
-    pub(crate) int_handle: u16,
-    pub(crate) op: LineOp,
+pub struct Line {
+    /// The PASID.
+    pub pasid: u32,
+    /// Whether the operation is done with the privilege of the kernel.
+    pub privileged: bool,
+    /// The flags.
+    pub flags: u32,
+    /// The address of the completion record.
+    pub record_at: u64,
+    /// The transfer size in bytes.
+    pub size: u32,
+    /// The interrupt handle.
+    pub int_handle: u16,
+    /// The operation.
+    pub op: LineOp,
 }
 
 impl Line {
+    /// The fields of an operation.
+    pub(crate) fn of(operation: &Operation) -> Line
+        ensures { view result ≡ operation_fields operation.now }
+    {
+        match operation {
+            Operation::Descriptor(descriptor) => Line {
+                pasid: descriptor.pasid,
+                privileged: descriptor.privileged,
+                flags: descriptor.flags.0,
+                record_at: descriptor.record_at,
+                size: descriptor.size,
+                int_handle: descriptor.int_handle,
+                op: LineOp::Descriptor(descriptor.op),
+            },
+            Operation::Checksum(checksum) => Line {
+                pasid: checksum.pasid,
+                privileged: checksum.privileged,
+                flags: checksum.flags.0,
+                record_at: checksum.record_at,
+                size: checksum.size,
+                int_handle: checksum.int_handle,
+                op: LineOp::Checksum(checksum.op),
+            },
+        }
+    }
+
     /// The first four bytes: the PASID and the privilege.
     fn owner_word(&self) -> u32
         requires { self.now.pasid < 2 ^ 20 }

@@ -12,7 +12,7 @@ use dsa_operations::{ChecksumOp, Seed};
 
 /// The operation of a line.
 #[derive(Clone, Copy)]
-pub(crate) enum LineOp {
+pub enum LineOp {
     /// That of a descriptor.
     Descriptor(Op),
     /// One that makes a checksum.

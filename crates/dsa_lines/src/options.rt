@@ -12,7 +12,7 @@ use crate::words::{is_over, next_word};
 use dsa_operations::{ChecksumOp, Seed};
 
 /// The flags that each operation of a list has: record address valid, and request record.
-pub(crate) const REQUIRED_FLAGS: u32 = 0x00_000c;
+const REQUIRED_FLAGS: u32 = 0x00_000c;
 
 /// The flags that may be carried and have no name.
 pub(crate) const CARRIED_FLAGS: u32 = 0x06_ff22;

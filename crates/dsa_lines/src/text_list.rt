@@ -1,17 +1,19 @@
 //! What a text lists, from one walk over its lines.
 
-ghost use Rattle.std.specs.Prelude.{◌≡◌, [], ◌∷◌, ◌++◌, IfErr, IfOk, OnOk, map};
-ghost use Rattle.std.specs.List.{flat_map};
+ghost use Rattle.std.specs.Prelude.{◌≡◌, [], ◌∷◌, ◌++◌, List, IfErr, IfOk, OnOk, MatchResult, map};
+ghost use Rattle.dsa_descriptor.specs.Lists.{AreOfOneOwner};
+ghost use Rattle.dsa_operations.specs.declared.operation.Operation.{Operation};
+ghost use Rattle.dsa_operations.specs.OperationFields.{operation_fields};
 ghost use Rattle.dsa_operations.specs.Operations.{spelling_of};
-ghost use Rattle.dsa_lines.specs.Assembled.{Assembles, IsTextFault};
+ghost use Rattle.dsa_lines.specs.declared.fault.TextFault.TheVariants.{Memory};
 ghost use Rattle.dsa_lines.specs.Barriers.{barriers_of};
-ghost use Rattle.dsa_lines.specs.TextLists.{Gathers, NamesLine, OneLineEach, PushesLine, line_number, line_shown, operation_lines};
-ghost use Rattle.dsa_lines.specs.Texts.{lines_of};
+ghost use Rattle.dsa_lines.specs.TextLists.{Gathers, IsFirstTextFault, IsTextFault, NamesLine, OneLineEach, PushesLine, line_number, line_shown, operation_lines};
+ghost use Rattle.dsa_lines.specs.Texts.{TextSpells, lines_of};
 
 use crate::fault::TextFault;
 use crate::lines::line_len;
 use crate::list_line::{ListLine, list_line};
-use dsa_descriptor::{ListFault, kept_marks, read_entries};
+use dsa_descriptor::{ListFault, kept_marks, read_plain};
 use dsa_operations::{Operation, OperationList};
 use std::alloc::{AllocError, Global};
 
@@ -150,21 +152,23 @@ pub(crate) fn text_fault(lines: &[OperationLine<'_>], fault: ListFault) -> TextF
 /// before the first operation says nothing. The line of a batch is passed over, since a plan has batches of its own.
 ///
 /// # Errors
-/// The first line that leaves the grammar; else the first fault of the operations as a list, as [`read_entries`] reports
-/// it; [`TextFault::Memory`] at the first allocation that fails.
+/// The first line that leaves the grammar; else the first fault of the operations as a list, as [`read_plain`] reports
+/// it, with the line of its operation; [`TextFault::Memory`] at the first allocation that fails.
 pub fn parse_text<'a>(
     alloc: Global,
     text: &'a [u8],
     keep_fences: bool,
 ) -> Result<TextList<'a>, TextFault>
-    ensures answer { Assembles (λ read. flat_map spelling_of read.list.entries.items)
-        (lines_of text.now) result }
+    ensures spelled { IfOk result
+        (λ read. TextSpells text.now (map operation_fields read.list.entries.items)) }
     ensures barriers { IfOk result
         (λ read. read.list.barriers.items ≡ barriers_of keep_fences (lines_of text.now)) }
     ensures lines { IfOk result
         (λ read. map line_shown read.lines.items ≡ operation_lines 1 (lines_of text.now)) }
-    // The fault of a list names the line of its operation.
-    ensures place { IfErr result (NamesLine (operation_lines 1 (lines_of text.now))) }
+    ensures only { (os : List Operation) →
+        TextSpells text.now (map operation_fields os) → AreOfOneOwner spelling_of os →
+        MatchResult result (λ read. read.list.entries.items ≡ os) (λ fault. fault ≡ Memory) }
+    ensures fault { IfErr result (IsFirstTextFault (lines_of text.now)) }
 {
     let Gathered {
         bytes,
@@ -174,7 +178,7 @@ pub fn parse_text<'a>(
         Ok(gathered) => gathered,
         Err(fault) => return Err(fault),
     };
-    let read = match read_entries::<Operation>(alloc, bytes.as_slice()) {
+    let read = match read_plain::<Operation>(alloc, bytes.as_slice()) {
         Ok(read) => read,
         Err(fault) => return Err(text_fault(&lines, fault)),
     };

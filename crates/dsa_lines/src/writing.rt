@@ -2,15 +2,16 @@
 
 ghost use Rattle.std.specs.Prelude.{◌≡◌, ◌++◌, ◌∷◌, ℕ, IfOk, OnOk, codes, decimal, string_bytes};
 ghost use Rattle.dsa_descriptor.specs.declared.op.Op.TheVariants.{Move, Fill, Compare, ComparePattern, ApplyDelta, Dualcast};
-ghost use Rattle.dsa_descriptor.specs.Profile.{required_flags};
 ghost use Rattle.dsa_operations.specs.declared.checksum_op.ChecksumOp.TheVariants.{Crc, CopyCrc};
 ghost use Rattle.dsa_operations.specs.OperationFields.{operation_fields};
-ghost use Rattle.dsa_operations.specs.OperationFields.OperationFields.{OfDescriptor};
 ghost use Rattle.dsa_lines.specs.Numbers.{hex, pattern_word};
 ghost use Rattle.dsa_lines.specs.Options.{carried_flags, checks_result};
-ghost use Rattle.dsa_lines.specs.Text.{text_of, tail_text, spaced, op_words, checksum_words, seed_words, operation_words, later_words, fields_later, number_option, name_option, line_text};
+ghost use Rattle.dsa_lines.specs.Text.{text_of, tail_text, spaced, op_words, checksum_words, seed_words, operation_words, later_words, number_option, name_option, line_text};
+ghost use Rattle.dsa_lines.specs.Views.{view};
 
-use crate::options::{CARRIED_FLAGS, CHECK_RESULT, REQUIRED_FLAGS};
+use crate::line::Line;
+use crate::operations::LineOp;
+use crate::options::{CARRIED_FLAGS, CHECK_RESULT};
 use dsa_descriptor::Op;
 use dsa_operations::{ChecksumOp, Operation, Seed};
 use std::alloc::{AllocError, Global};
@@ -260,15 +261,22 @@ fn checksum_text(alloc: Global, op: &ChecksumOp, size: u32) -> Result<String, Al
     }
 }
 
+/// The operation and its size, as the line of these fields begins.
+fn fields_text(alloc: Global, fields: &Line) -> Result<String, AllocError>
+    ensures { IfOk result (λ s. string_bytes s ≡ text_of (operation_words (view fields.now))) }
+{
+    match &fields.op {
+        LineOp::Descriptor(op) => op_text(alloc, op, fields.size),
+        LineOp::Checksum(op) => checksum_text(alloc, op, fields.size),
+    }
+}
+
 /// The operation and its size, as its line begins.
 pub fn operation_text(alloc: Global, operation: &Operation) -> Result<String, AllocError>
     ensures { IfOk result (λ s. string_bytes s ≡
         text_of (operation_words (operation_fields operation.now))) }
 {
-    match operation {
-        Operation::Descriptor(descriptor) => op_text(alloc, &descriptor.op, descriptor.size),
-        Operation::Checksum(checksum) => checksum_text(alloc, &checksum.op, checksum.size),
-    }
+    fields_text(alloc, &Line::of(operation))
 }
 
 /// Writes the address of the record.
@@ -339,64 +347,27 @@ fn push_later(
     push_number(alloc, line, "handle", u32::from(int_handle))
 }
 
-/// The canonical line of an operation with the flags that a list requires and no interrupt handle, with no newline. The
-/// fields need not be those of a listed descriptor.
-pub fn operation_line(
-    alloc: Global,
-    op: &Op,
-    size: u32,
-    record_at: u64,
-    pasid: u32,
-    privileged: bool,
-) -> Result<String, AllocError>
-    ensures { IfOk result (λ s. string_bytes s ≡ line_text (OfDescriptor (record {
-      pasid = pasid;
-      privileged = privileged;
-      flags = required_flags;
-      record_at = record_at;
-      size = size;
-      int_handle = 0;
-      op = op.now;
-    }))) }
+/// The canonical line of fields, with no newline. It spells them if a list may have them
+/// ([`canonical_line_spells`](crate::canonical_line_spells)); they need not be those of a listed operation.
+pub fn line_of_fields(alloc: Global, fields: &Line) -> Result<String, AllocError>
+    ensures { IfOk result (λ s. string_bytes s ≡ line_text (view fields.now)) }
 {
-    let mut line = op_text(alloc, op, size)?;
-    let flags = REQUIRED_FLAGS;
-    push_later(alloc, &mut line, record_at, pasid, privileged, flags, 0)?;
+    let mut line = fields_text(alloc, fields)?;
+    push_later(
+        alloc,
+        &mut line,
+        fields.record_at,
+        fields.pasid,
+        fields.privileged,
+        fields.flags,
+        fields.int_handle,
+    )?;
     Ok(line)
-}
-
-/// Writes the record and the options of an operation.
-fn push_fields(alloc: Global, line: &mut String, operation: &Operation) -> Result<(), AllocError>
-    ensures { OnOk result (string_bytes line.new ≡ string_bytes line.old ++
-        tail_text (fields_later (operation_fields operation.now))) }
-{
-    match operation {
-        Operation::Descriptor(d) => push_later(
-            alloc,
-            line,
-            d.record_at,
-            d.pasid,
-            d.privileged,
-            d.flags.0,
-            d.int_handle,
-        ),
-        Operation::Checksum(c) => push_later(
-            alloc,
-            line,
-            c.record_at,
-            c.pasid,
-            c.privileged,
-            c.flags.0,
-            c.int_handle,
-        ),
-    }
 }
 
 /// The canonical line of an operation, with no newline.
 pub fn line_of(alloc: Global, operation: &Operation) -> Result<String, AllocError>
     ensures { IfOk result (λ s. string_bytes s ≡ line_text (operation_fields operation.now)) }
 {
-    let mut line = operation_text(alloc, operation)?;
-    push_fields(alloc, &mut line, operation)?;
-    Ok(line)
+    line_of_fields(alloc, &Line::of(operation))
 }

@@ -1,18 +1,46 @@
-use dsa_descriptor::{FieldFault, ListFault};
+use dsa_descriptor::{FieldFault, ListFault, write_entries};
 use dsa_lines::{
-    Expected, TextFault, assemble, assemble_fenced, assemble_recording, canonical_text_spells,
-    disassemble, disassemble_portal, disassemble_staging, line_of_operation, one_text_one_list,
-    parse_text, text_spells_one, text_with_barriers,
+    Expected, TextFault, assemble_recording, canonical_text_spells, disassemble,
+    disassemble_portal, disassemble_staging, line_of_operation, one_text_one_list, parse_text,
+    text_spells_one,
 };
+use std::alloc::Global;
 use std::test::Fail;
 
 /// Two moves, with a comment, an empty line and a line of blanks between.
-const TEXT: &str =
-    "# two moves\nmove 0x1000 -> 0x2000, 64 bytes, record 0x8000\n\n \t\nmove 0x2000 -> 0x4000, 64 bytes, record 0x8020 # reads it";
+const TEXT: &str = "# two moves\nmove 0x1000 -> 0x2000, 64 bytes, record 0x8000\n\n \t\n\
+     move 0x2000 -> 0x4000, 64 bytes, record 0x8020 # reads it";
 
 /// Their canonical text.
 const CANONICAL: &str =
     "move 0x1000 -> 0x2000, 64 bytes, record 0x8000\nmove 0x2000 -> 0x4000, 64 bytes, record 0x8020\n";
+
+/// A copy with a checksum, and after a barrier a checksum that goes on from where the first was put.
+const CHECKSUMS: &str = "copy_crc 0x1000 -> 0x2000, 64 bytes, seed 0x0, record 0x8000\nbarrier\n\
+     crc 0x2000, 64 bytes, seed at 0x8010, record 0x8020\n";
+
+/// The same without the barrier, as text and as that of a staging area.
+const WITHOUT_BARRIER: &str = "copy_crc 0x1000 -> 0x2000, 64 bytes, seed 0x0, record 0x8000\n\
+     crc 0x2000, 64 bytes, seed at 0x8010, record 0x8020\n";
+
+const STAGED: &str = "copy_crc 0x1000 -> 0x2000, 64 bytes, seed 0x0, record 0x8000\n\
+     fence crc 0x2000, 64 bytes, seed at 0x8010, record 0x8020\n";
+
+/// The bytes of the list that a text spells, with its barriers as fences.
+fn assembled(alloc: Global, text: &str) -> Result<Vec<u8>, Fail> {
+    match parse_text(alloc, text.as_bytes(), false) {
+        Ok(read) => Ok(write_entries(alloc, &read.list.entries, &read.list.barriers)?),
+        Err(_) => Err(Fail::new("no list")),
+    }
+}
+
+/// The canonical text of a list.
+fn disassembled(alloc: Global, list: &[u8], keep_fences: bool) -> Result<String, Fail> {
+    match disassemble(alloc, list, keep_fences) {
+        Ok(text) => Ok(text),
+        Err(_) => Err(Fail::new("no text")),
+    }
+}
 
 #[test]
 fn there_and_back(rt: HostRuntime) -> Result<(), Fail> {
@@ -20,31 +48,22 @@ fn there_and_back(rt: HostRuntime) -> Result<(), Fail> {
     one_text_one_list();
     canonical_text_spells();
     let alloc = rt.alloc();
-    match assemble(alloc, TEXT.as_bytes()) {
-        Ok(bytes) => match disassemble(alloc, &bytes) {
-            Ok(text) => assert!(rt; text.as_str() == CANONICAL),
-            Err(fault) => assert!(rt; false, "{fault:?}"),
-        },
-        Err(fault) => assert!(rt; false, "{fault:?}"),
+    let bytes = assembled(alloc, TEXT)?;
+    for keep_fences in [false, true] {
+        let text = disassembled(alloc, &bytes, keep_fences)?;
+        assert!(rt; text.as_str() == CANONICAL);
     }
+    assert_eq!(rt; assembled(alloc, "")?.len(), 0);
     assert_eq!(rt;
-        assemble(alloc, b"".as_slice()).map(|bytes| bytes.len()),
-        Ok(0)
-    );
-    assert_eq!(rt;
-        assemble(
-            alloc,
-            b"# a move\r\n\r\nmove 1 -> 2, 3 bytes, record 32\r\n".as_slice()
-        )
-        .map(|bytes| bytes.len()),
-        Ok(64)
+        assembled(alloc, "# a move\r\n\r\nmove 1 -> 2, 3 bytes, record 32\r\n")?.len(),
+        64
     );
     Ok(())
 }
 
 /// A line that leaves the grammar comes before any fault of the list; a fault names the line of its operation.
 #[test]
-fn refusals(rt: HostRuntime) -> Result<(), Fail> {
+fn refusals(rt: HostRuntime) {
     let alloc = rt.alloc();
     let refusals = [
         (
@@ -59,36 +78,34 @@ fn refusals(rt: HostRuntime) -> Result<(), Fail> {
             "move 1 -> 2, 3 bytes, record 32\n\nmove 1 -> 2, 3 bytes, record 64, pasid 1",
             TextFault::List(3, ListFault::MixedPasid(1)),
         ),
+        (
+            "crc 0x1000, 64 bytes, record 0x8000\n\ncrc 0x1000, 64 bytes, record 0x8020, check\n",
+            TextFault::List(3, ListFault::Field(1, FieldFault::FlagBits)),
+        ),
+        (
+            "crc 0x1000, 64 bytes, record 0x8000\nmove 1 -> 2, 3 bytes, record 64, pasid 1",
+            TextFault::List(2, ListFault::MixedPasid(1)),
+        ),
+        (
+            "move 1 -> 2, 0 bytes, record 0\ncrc 0x1000, 64 bytes, seed\n",
+            TextFault::Grammar(2, 27, Expected::Seed),
+        ),
     ];
     for (text, fault) in &refusals {
-        assert_eq!(rt; assemble(alloc, text.as_bytes()).err(), Some(*fault));
+        let read = parse_text(alloc, text.as_bytes(), false);
+        assert_eq!(rt; read.map(|read| read.lines.len()).err(), Some(*fault));
     }
-    assert_eq!(rt;
-        disassemble(alloc, [0u8; 3].as_slice()).err(),
-        Some(ListFault::Length)
-    );
-    Ok(())
 }
-
-/// A copy with a checksum, and after a barrier a checksum that goes on from where the first was put.
-const CHECKSUMS: &str =
-    "copy_crc 0x1000 -> 0x2000, 64 bytes, seed 0x0, record 0x8000\nbarrier\ncrc 0x2000, 64 bytes, seed at 0x8010, record 0x8020\n";
-
-/// The same without the barrier, as text and as that of a staging area.
-const WITHOUT_BARRIER: &str =
-    "copy_crc 0x1000 -> 0x2000, 64 bytes, seed 0x0, record 0x8000\ncrc 0x2000, 64 bytes, seed at 0x8010, record 0x8020\n";
-
-const STAGED: &str =
-    "copy_crc 0x1000 -> 0x2000, 64 bytes, seed 0x0, record 0x8000\nfence crc 0x2000, 64 bytes, seed at 0x8010, record 0x8020\n";
 
 /// Checksums in lists, portals, staging areas and recordings.
 #[test]
 fn checksums(rt: HostRuntime) -> Result<(), Fail> {
     let alloc = rt.alloc();
-    let Ok(bytes) = assemble(alloc, CHECKSUMS.as_bytes()) else {
-        assert!(rt; false, "not assembled");
-        return Ok(());
-    };
+    let bytes = assembled(alloc, WITHOUT_BARRIER)?;
+    for keep_fences in [false, true] {
+        let text = disassembled(alloc, &bytes, keep_fences)?;
+        assert!(rt; text.as_str() == WITHOUT_BARRIER);
+    }
     match disassemble_portal(alloc, &bytes) {
         Ok(text) => assert!(rt; text.as_str() == WITHOUT_BARRIER),
         Err(_) => assert!(rt; false, "no portal"),
@@ -104,19 +121,15 @@ fn checksums(rt: HostRuntime) -> Result<(), Fail> {
 #[test]
 fn fenced_checksums(rt: HostRuntime) -> Result<(), Fail> {
     let alloc = rt.alloc();
-    match assemble_fenced(alloc, CHECKSUMS.as_bytes(), false) {
-        Ok((bytes, read)) => {
-            assert_eq!(rt; bytes.len(), 128);
-            assert_eq!(rt; bytes[68], 0x0d);
-            assert_eq!(rt; bytes[71], 0x10);
-            let text = text_with_barriers(alloc, &read.list.entries, &read.list.barriers)?;
-            assert!(rt; text.as_str() == CHECKSUMS);
-            match disassemble_staging(alloc, &bytes, 0x4000) {
-                Ok(text) => assert!(rt; text.as_str() == STAGED),
-                Err(_) => assert!(rt; false, "no staging area"),
-            }
-        }
-        Err(fault) => assert!(rt; false, "{fault:?}"),
+    let bytes = assembled(alloc, CHECKSUMS)?;
+    assert_eq!(rt; bytes.len(), 128);
+    assert_eq!(rt; bytes[68], 0x0d);
+    assert_eq!(rt; bytes[71], 0x10);
+    let text = disassembled(alloc, &bytes, true)?;
+    assert!(rt; text.as_str() == CHECKSUMS);
+    match disassemble_staging(alloc, &bytes, 0x4000) {
+        Ok(text) => assert!(rt; text.as_str() == STAGED),
+        Err(_) => assert!(rt; false, "no staging area"),
     }
     match parse_text(alloc, STAGED.as_bytes(), true) {
         Ok(read) => {
@@ -129,25 +142,20 @@ fn fenced_checksums(rt: HostRuntime) -> Result<(), Fail> {
     Ok(())
 }
 
-/// Faults of checksums name the lines of their operations.
+/// A list is refused for its first fault: an entry of another length, or one with a fence that is not kept.
 #[test]
-fn refused_checksums(rt: HostRuntime) {
+fn refused_lists(rt: HostRuntime) -> Result<(), Fail> {
     let alloc = rt.alloc();
-    let refusals = [
-        (
-            "crc 0x1000, 64 bytes, record 0x8000\n\ncrc 0x1000, 64 bytes, record 0x8020, check\n",
-            TextFault::List(3, ListFault::Field(1, FieldFault::FlagBits)),
-        ),
-        (
-            "crc 0x1000, 64 bytes, record 0x8000\nmove 1 -> 2, 3 bytes, record 64, pasid 1",
-            TextFault::List(2, ListFault::MixedPasid(1)),
-        ),
-        (
-            "move 1 -> 2, 0 bytes, record 0\ncrc 0x1000, 64 bytes, seed\n",
-            TextFault::Grammar(2, 27, Expected::Seed),
-        ),
-    ];
-    for (text, fault) in &refusals {
-        assert_eq!(rt; assemble(alloc, text.as_bytes()).err(), Some(*fault));
+    for keep_fences in [false, true] {
+        assert_eq!(rt;
+            disassemble(alloc, [0u8; 3].as_slice(), keep_fences).err(),
+            Some(ListFault::Length)
+        );
     }
+    let fenced = assembled(alloc, CHECKSUMS)?;
+    assert_eq!(rt;
+        disassemble(alloc, &fenced, false).err(),
+        Some(ListFault::Field(1, FieldFault::FlagBits))
+    );
+    Ok(())
 }

@@ -7,8 +7,8 @@ use Rattle.dsa_operations.specs.Operations.{spelling_of}
 use Rattle.dsa_lists.specs.Resuming.{ResumesRead}
 use Rattle.dsa_settings.specs.Settings.{Limits}
 use Rattle.dsa_lines.specs.declared.fault.TextFault.{TextFault}
-use Rattle.dsa_lines.specs.Assembled.{Assembles}
-use Rattle.dsa_lines.specs.Barriers.{barriers_of, marked_text}
+use Rattle.dsa_lines.specs.Barriers.{barriers_of, list_text}
+use Rattle.dsa_lines.specs.TextLists.{IsFirstTextFault}
 use Rattle.dsa_lines.specs.Texts.{all_fields, lines_of}
 use Rattle.dsa_calls.specs.declared.fault.PlanFault.TheVariants.{Memory}
 use Rattle.dsa_calls.specs.Fault.{indices_text}
@@ -39,7 +39,7 @@ IsResumeRefusal (PassedBarrier i j) a = (a.status ≡ 1) × NamesResume (PassedB
 -- the canonical text of what is left
 pub record IsRestText (rest : Remainder Operation) (a : Answer) : Type 0 where
   pub status : a.status ≡ 0
-  pub lines : string_bytes a.text ≡ marked_text (map operation_fields rest.pieces) rest.barriers
+  pub lines : string_bytes a.text ≡ list_text (map operation_fields rest.pieces) rest.barriers
 
 -- the text spells these operations, of one owner; a line `barrier` is a barrier, and so is the fence of a line if fences are kept
 pub record IsListedText (text : List ℕ) (keep_fences : Bool) (operations : List Operation) (barriers : List Bool) : Type 0 where
@@ -50,7 +50,7 @@ pub record IsListedText (text : List ℕ) (keep_fences : Bool) (operations : Lis
 -- The answer to a text, to records and to what is given up: the refusal of a text that spells no list, or of its list or
 -- what is said of it; or the text of what is left.
 pub data ResumesText (text : List ℕ) (keep_fences : Bool) (s : Limits) (records given_up : List ℕ) (order : LeftOrder) (a : Answer) : Type 0 where
-  is_no_list : (fault : TextFault) → Assembles {X = List ℕ} (λ bytes. bytes) (lines_of text) (Err fault) → RefusesText fault a
+  is_no_list : (fault : TextFault) → IsFirstTextFault (lines_of text) fault → RefusesText fault a
       → ResumesText text keep_fences s records given_up order a
   is_refused : (operations : List Operation) (barriers : List Bool) (fault : ResumeFault) → IsListedText text keep_fences operations barriers
       → (fault ≡ Plan Memory) ⊎ ResumesRead s operations barriers records given_up order (Err fault)

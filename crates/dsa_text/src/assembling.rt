@@ -1,5 +1,10 @@
 //! `assemble`: a text as the bytes of its list, or as a job.
 
+ghost use Rattle.std.specs.Prelude.{◌≡◌, ◌++◌, ◌∷◌, [], IfOk, string_bytes};
+ghost use Rattle.hex.specs.Hex.{encode_lower};
+ghost use Rattle.dsa_descriptor.specs.Fences.{fenced_entries};
+ghost use Rattle.dsa_operations.specs.Operations.{spelling_of};
+
 use crate::inputs::refused_settings;
 use crate::options::settings_words;
 use clap::ArgMatches;
@@ -7,17 +12,31 @@ use dsa_advice::{
     Answer, Source, fence_lines, fenced_in, push_settings, refuse_unplanned, settings_of,
 };
 use dsa_calls::PlanFault;
-use dsa_descriptor::{FieldFault, ListFault};
-use dsa_lines::{TextList, assemble_fenced, line_of_operation};
+use dsa_descriptor::{FieldFault, ListFault, write_entries};
+use dsa_lines::{TextList, line_of_operation, parse_text};
 use dsa_lists::descriptors_in;
-use dsa_operations::Operation;
+use dsa_operations::{Operation, OperationList};
 use dsa_plan::Settings;
 use dsa_splitter::pieces;
 use std::alloc::{AllocError, Global};
 
-/// The list of these bytes in hexadecimal.
-fn list_answer(alloc: Global, list: &[u8]) -> Result<Answer, AllocError> {
-    let mut text = hex::encode(alloc, list)?;
+/// The bytes of a list in hexadecimal: an operation after a barrier has the flag 0x0001, fence.
+fn digits_of(alloc: Global, list: &OperationList) -> Result<String, AllocError>
+    ensures { IfOk result (λ text. string_bytes text ≡ encode_lower
+        (fenced_entries spelling_of list.now.entries.items list.now.barriers.items)) }
+{
+    let bytes = write_entries(alloc, &list.entries, &list.barriers)?;
+    hex::encode(alloc, bytes.as_slice())
+}
+
+/// A list in hexadecimal.
+fn list_answer(alloc: Global, list: &OperationList) -> Result<Answer, AllocError>
+    ensures status { IfOk result (λ a. a.status ≡ 0) }
+    ensures text { IfOk result (λ a. string_bytes a.text ≡ encode_lower
+        (fenced_entries spelling_of list.now.entries.items list.now.barriers.items)
+        ++ 10 ∷ []) }
+{
+    let mut text = digits_of(alloc, list)?;
     text.push_str("\n")?;
     Ok(Answer::done(text))
 }
@@ -31,10 +50,14 @@ pub(crate) fn passed_over(
     fence_lines(alloc, &read.lines, &fenced, "this fence is passed over")
 }
 
-/// The job to plan the list of these bytes.
-fn job_of_list(alloc: Global, list: &[u8], settings: &Settings) -> Result<Answer, AllocError> {
+/// The job to plan a list.
+fn job_of_list(
+    alloc: Global,
+    list: &OperationList,
+    settings: &Settings,
+) -> Result<Answer, AllocError> {
     let mut job = String::from_str(alloc, "{\"do\":\"plan\",\"list\":\"")?;
-    job.push_str(&hex::encode(alloc, list)?)?;
+    job.push_str(&digits_of(alloc, list)?)?;
     job.push_str("\",\"settings\":")?;
     push_settings(alloc, &mut job, settings)?;
     job.push_str("}\n")?;
@@ -73,13 +96,12 @@ fn refused_in_job(
     Answer::fault_with(alloc, PlanFault::from(fault), &words)
 }
 
-/// The job to plan the list of a text, which has these bytes. One that can't be planned, or has barriers or checksums,
-/// is refused here, where its lines are known.
+/// The job to plan the list of a text. One that can't be planned, or has barriers or checksums, is refused here, where
+/// its lines are known.
 fn job_answer(
     alloc: Global,
     text: &[u8],
     read: &TextList<'_>,
-    list: &[u8],
     settings: &Settings,
 ) -> Result<Answer, AllocError> {
     let barrier = read.list.barriers.iter().position(|mark| *mark);
@@ -87,7 +109,7 @@ fn job_answer(
         return refused_in_job(alloc, read, barrier);
     };
     match pieces(alloc, &found.descriptors, settings) {
-        Ok(_) => job_of_list(alloc, list, settings),
+        Ok(_) => job_of_list(alloc, &read.list, settings),
         Err(cause) => refuse_unplanned(
             alloc,
             &read.list.entries,
@@ -110,14 +132,14 @@ pub(crate) fn assemble_text(
         return refused_settings(alloc, &words);
     };
     let keep_fences = matches.get_flag("keep-fences");
-    let (list, read) = match assemble_fenced(alloc, text, keep_fences) {
-        Ok(found) => found,
+    let read = match parse_text(alloc, text, keep_fences) {
+        Ok(read) => read,
         Err(fault) => return Answer::text_fault(alloc, text, fault),
     };
     let answer = if matches.get_flag("job") {
-        job_answer(alloc, text, &read, &list, &settings)?
+        job_answer(alloc, text, &read, &settings)?
     } else {
-        list_answer(alloc, &list)?
+        list_answer(alloc, &read.list)?
     };
     Ok(answer.with_warnings(passed_over(alloc, &read)?))
 }

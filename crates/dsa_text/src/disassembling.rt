@@ -1,27 +1,29 @@
 //! `disassemble`: the text of a list, a portal or a staging area.
 
 ghost use Rattle.std.specs.Prelude.{IfOk};
-ghost use Rattle.dsa_text.specs.Disassembled.{DisassemblesFenced};
+ghost use Rattle.dsa_calls.specs.declared.fault.PlanFault.{PlanFault};
+ghost use Rattle.dsa_calls.specs.Fault.{list_cause};
+ghost use Rattle.dsa_advice.specs.Refusals.{IsRefusal};
+ghost use Rattle.dsa_text.specs.Disassembled.{DisassemblesList};
 
 use crate::options::word;
 use clap::ArgMatches;
 use dsa_advice::{Answer, bytes_or_refusal, limits_of, number_of};
 use dsa_calls::PlanFault;
-use dsa_descriptor::{FieldFault, ListFault, read_entries};
+use dsa_descriptor::{FieldFault, ListFault};
 use dsa_forms::is_text;
-use dsa_lines::{EmittedFault, text_with_barriers};
-use dsa_operations::Operation;
+use dsa_lines::EmittedFault;
 use dsa_plan::Setting;
 use std::alloc::{AllocError, Global};
 
-/// What to do about an entry that is no operation of a list.
-fn hint_of(list: &[u8], at: usize, fault: FieldFault) -> &'static str {
+/// What to do about an entry that is no operation of a list, in which fences are kept or at fault.
+fn hint_of(list: &[u8], keep_fences: bool, at: usize, fault: FieldFault) -> &'static str {
     let (entries, _) = list.as_chunks::<64>();
     let Some(entry) = entries.get(at) else {
         return "";
     };
     match fault {
-        FieldFault::FlagBits if entry[4] & 1 == 1 => {
+        FieldFault::FlagBits if entry[4] & 1 == 1 && !keep_fences => {
             "note: it has a fence (flag 0x0001), which --keep-fences reads as a barrier\n"
         }
         FieldFault::Opcode if entry[7] == 1 => {
@@ -41,34 +43,40 @@ fn hint_of(list: &[u8], at: usize, fault: FieldFault) -> &'static str {
     }
 }
 
-/// The refusal of a list, and what to do about it.
-fn refused_list(alloc: Global, list: &[u8], fault: ListFault) -> Result<Answer, AllocError> {
-    let mut refusal = Answer::list_fault(alloc, list, fault)?;
-    match fault {
-        ListFault::Field(at, fault) => refusal.text.push_str(hint_of(list, at, fault))?,
-        ListFault::Length | ListFault::MixedPasid(_) | ListFault::Memory => {}
-    }
-    Ok(refusal)
-}
-
-/// The text of a list.
-fn disassemble_list(alloc: Global, list: &[u8]) -> Result<Answer, AllocError> {
-    match dsa_lines::disassemble(alloc, list) {
-        Ok(text) => Ok(Answer::done(text)),
-        Err(fault) => refused_list(alloc, list, fault),
-    }
-}
-
-/// The text of a list in which each fence after the first operation is a barrier.
-fn disassemble_fenced(alloc: Global, list: &[u8]) -> Result<Answer, AllocError>
-    ensures { IfOk result (DisassemblesFenced list.now) }
+/// The same refusal, with a hint after it.
+fn with_hint(refusal: Answer, hint: &str) -> Result<Answer, AllocError>
+    ensures { IfOk result
+        (λ a. (fault : PlanFault) → IsRefusal fault refusal → IsRefusal fault a) }
 {
-    match read_entries::<Operation>(alloc, list) {
-        Ok(read) => {
-            let text = text_with_barriers(alloc, &read.entries, &read.barriers)?;
-            Ok(Answer::done(text))
-        }
-        Err(fault) => Answer::list_fault(alloc, list, fault),
+    let mut hinted = refusal;
+    hinted.text.push_str(hint)?;
+    Ok(hinted)
+}
+
+/// The refusal of a list, and what to do about it.
+fn refused_list(
+    alloc: Global,
+    list: &[u8],
+    keep_fences: bool,
+    fault: ListFault,
+) -> Result<Answer, AllocError>
+    ensures { IfOk result (IsRefusal (list_cause fault)) }
+{
+    let refusal = Answer::list_fault(alloc, list, fault)?;
+    let hint = match fault {
+        ListFault::Field(at, fault) => hint_of(list, keep_fences, at, fault),
+        ListFault::Length | ListFault::MixedPasid(_) | ListFault::Memory => "",
+    };
+    with_hint(refusal, hint)
+}
+
+/// The text of a list. If fences are kept, each after the first operation is a barrier.
+fn disassemble_list(alloc: Global, list: &[u8], keep_fences: bool) -> Result<Answer, AllocError>
+    ensures { IfOk result (DisassemblesList keep_fences list.now) }
+{
+    match dsa_lines::disassemble(alloc, list, keep_fences) {
+        Ok(text) => Ok(Answer::done(text)),
+        Err(fault) => refused_list(alloc, list, keep_fences, fault),
     }
 }
 
@@ -113,10 +121,8 @@ fn lines_of(
         disassemble_portal(alloc, bytes)
     } else if matches.get_flag("staging") {
         disassemble_staging(alloc, bytes, at)
-    } else if matches.get_flag("keep-fences") {
-        disassemble_fenced(alloc, bytes)
     } else {
-        disassemble_list(alloc, bytes)
+        disassemble_list(alloc, bytes, matches.get_flag("keep-fences"))
     }
 }
 

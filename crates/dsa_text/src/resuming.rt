@@ -13,8 +13,8 @@ use crate::options::settings_words;
 use crate::reading::{file_in, file_of, input};
 use clap::{Arg, ArgAction, ArgMatches, Command};
 use dsa_advice::{
-    Answer, bytes_or_refusal, joined, numbers_of, push_indices, push_sentence, resume_notes,
-    settings_of,
+    Answer, Source, bytes_or_refusal, joined, numbers_of, push_indices, push_sentence,
+    refuse_unplanned, resume_notes, settings_of,
 };
 use dsa_descriptor::MOST_PIECES;
 use dsa_forms::is_text;
@@ -135,7 +135,10 @@ fn resume_text<'a>(
     };
     match resume_read_list(alloc, &read.list, settings, records, given_up, order) {
         Ok(rest) => Ok((rest_answer(alloc, &rest, records)?, Some(read))),
-        Err(fault) => Ok((fault_answer(alloc, fault)?, Some(read))),
+        Err(fault) => {
+            let refusal = fault_answer(alloc, text, &read, settings, fault)?;
+            Ok((refusal, Some(read)))
+        }
     }
 }
 
@@ -171,12 +174,24 @@ fn left_out_note(
     )?))
 }
 
-/// The refusal of a list or of what is said of it.
-fn fault_answer(alloc: Global, fault: ResumeFault) -> Result<Answer, AllocError>
+/// The refusal of the list of a text or of what is said of it.
+fn fault_answer(
+    alloc: Global,
+    text: &[u8],
+    read: &TextList<'_>,
+    settings: &Settings,
+    fault: ResumeFault,
+) -> Result<Answer, AllocError>
     ensures { IfOk result (IsResumeRefusal fault) }
 {
     match fault {
-        ResumeFault::Plan(cause) => Answer::fault(alloc, cause),
+        ResumeFault::Plan(cause) => refuse_unplanned(
+            alloc,
+            &read.list.entries,
+            settings,
+            Source::Text(text, &read.lines),
+            cause,
+        ),
         ResumeFault::Records
         | ResumeFault::SharedRecord(_, _)
         | ResumeFault::NotFailed(_)

@@ -4,7 +4,7 @@ use Rattle.dsa_operations.specs.OperationFields.{operation_fields}
 use Rattle.dsa_lines.specs.Barriers.{barrier_line}
 use Rattle.dsa_lines.specs.Texts.{text_line}
 use Rattle.dsa_lines.proofs.Marks.{field_at, none_written, text_more}
-use Rattle.dsa_lines.proofs.fenced.text_with_barriers.Goals as goal
+use Rattle.dsa_lines.proofs.disassembling.text_with_barriers.Goals as goal
 
 pub loop-index-init : goal.loop-index-init
 loop-index-init c = c.new-text.ensures.bytes ∙ sym (none_written c.args.marks.now)

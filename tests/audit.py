@@ -23,7 +23,7 @@ from audit_drawn import alike, counted, known_beside_unknown, no_effect, picture
 from audit_entries import (
     CHECK, FURTHER, INSERT, STRIP, UPDATE, batch, entry, first_foreign, hexdump, moves_apart, pasid_of, plain, xxd,
 )
-from audit_lists import lines, lists, planned, staged
+from audit_lists import lines, listed_entries, lists, planned, staged
 from audit_model import GREATEST_BATCH, KINDS, Maker, audited, audited_with_dumps, judge, submissions
 from common import move, named, program, run_test
 from model import COMPARE, DELTA, DUALCAST, FILL, MOVE, PATTERN
@@ -272,7 +272,7 @@ def main(words):
     parts += [hazards_by_hand, stale_by_hand, soon_accepted, soon_used, pictures, sizes, no_effect]
     parts += [known_beside_unknown, alike]
     parts += [wide_fills, too_large]
-    parts += [planned, staged, lines, lists, unseen, reserved]
+    parts += [planned, staged, lines, lists, listed_entries, unseen, reserved]
     parts += [ends, in_parts, small_memory, forms, speed, soon_drawn]
     for part in named(parts, [it for it in words if not it.isdigit()]):
         part()

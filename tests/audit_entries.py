@@ -7,8 +7,9 @@ from common import move
 from model import COMPARE, COPY_CRC, CRC, DELTA, DUALCAST, FILL, MOVE, PATTERN, Op
 
 WRAP = 1 << 64
-# Operations beyond those of a plan, with their names: docs/FORMATS.md, and linux/idxd.h but for 0x0a and 0x17.
+# Operations beyond the six of a descriptor, with their names: docs/FORMATS.md, and linux/idxd.h but for 0x0a and 0x17.
 DRAIN, CREATE, FETCH, CHECK, INSERT, STRIP, UPDATE, FLUSH = 0x02, 0x07, 0x0A, *range(0x12, 0x16), 0x20
+CHECKSUMS = (CRC, COPY_CRC)
 FURTHER = {DRAIN: "drain", CREATE: "create delta", FETCH: "translation fetch", CRC: "CRC", COPY_CRC: "copy with CRC"}
 FURTHER |= {CHECK: "DIF check", INSERT: "DIF insert", STRIP: "DIF strip", UPDATE: "DIF update", FLUSH: "cache flush"}
 NAMED = FURTHER | {0x17: "DIX generate"}
@@ -114,7 +115,7 @@ def span(first, size):
 
 
 def further_data(it):
-    """The spans that an operation of no plan reads and those that it writes; or None, if they are not certain."""
+    """The spans that an operation beyond these six reads and those that it writes; or None, if they are not certain."""
     _, word, _, first, second, size = struct.unpack_from("<IIQQQI", it)
     code, one, other = word >> 24, span(first, size), span(second, size)
     delta_at, at_48, most = *struct.unpack_from("<QQ", it, 40), struct.unpack_from("<I", it, 48)[0]
@@ -176,13 +177,13 @@ def parts_of(it):
 def operands_of(it):
     """The bytes of data that an entry reads and those that it writes, the value of a checksum in its record too."""
     reads, writes, record = parts_of(it)
-    return reads, writes | (record if it[7] in (CRC, COPY_CRC) else set())
+    return reads, writes | (record if it[7] in CHECKSUMS else set())
 
 
 def touches_record(one, other):
     """The second writes within the record of the first, or reads there a status, which is no checksum's."""
     record, (reads, writes, own) = parts_of(one)[2], parts_of(other)
-    return bool(record & (writes | own) or (one[7] not in (CRC, COPY_CRC) and record & reads))
+    return bool(record & (writes | own) or (one[7] not in CHECKSUMS and record & reads))
 
 
 def shares_record(one, other):

@@ -12,10 +12,10 @@ from pathlib import Path
 
 import audit_model
 import common
-from audit_entries import FURTHER, NAMED, WHY, WRAP, entry, spans_of, xxd
+from audit_entries import CHECKSUMS, FURTHER, NAMED, WHY, WRAP, entry, spans_of, xxd
 from audit_model import Maker, audited
 from common import program
-from model import COMPARE, DELTA, DUALCAST, FILL, MOVE, PATTERN
+from model import COMPARE, COPY_CRC, CRC, DELTA, DUALCAST, FILL, MOVE, PATTERN, PLAIN_DATA, PLAIN_SUM, SEED_READ
 
 ADDED = 1 << 62
 
@@ -170,6 +170,9 @@ def operation_line(it, number):
     owner, word, record, first, second, size = struct.unpack_from("<IIQQQI", it)
     own, digits = int.from_bytes(it[40:48], "little"), it[16:24].hex()
     expected, check = (it[40], ", check") if is_checked(it) else (0, "")
+    given, address = own & 0xFFFFFFFF, int.from_bytes(it[48:56], "little")
+    seed = f"seed at {address:#x}" if word & SEED_READ else f"seed {given:#x}"
+    kept = word & (PLAIN_SUM | PLAIN_DATA) if it[7] in CHECKSUMS else 0
     front = {
         MOVE: f"move {first:#x} -> {second:#x}, {size} bytes",
         FILL: f"fill {second:#x} with {digits}, {size} bytes",
@@ -177,10 +180,13 @@ def operation_line(it, number):
         PATTERN: f"compare {first:#x} with pattern {it[24:32].hex()}, {size} bytes, expect {expected}",
         DELTA: f"delta {first:#x}, {own & 0xFFFFFFFF} bytes -> {second:#x}, {size} bytes",
         DUALCAST: f"dualcast {first:#x} -> {second:#x} and {own:#x}, {size} bytes",
+        CRC: f"crc {first:#x}, {size} bytes, {seed}",
+        COPY_CRC: f"copy_crc {first:#x} -> {second:#x}, {size} bytes, {seed}",
     }[word >> 24]
     at = record if word & 0x0C == 0x0C else ADDED + 32 * number
-    pasid = f", pasid {owner % 2**20}" if owner % 2**20 else ""
-    return f"{front}, record {at:#x}{pasid}{', privileged' if owner >> 31 else ''}{check} # entry {number}"
+    options = f", pasid {owner % 2**20}" if owner % 2**20 else ""
+    options += f"{', privileged' if owner >> 31 else ''}{check}" + (f", flags {kept}" if kept else "")
+    return f"{front}, record {at:#x}{options} # entry {number}"
 
 
 def operation_words(code):
@@ -194,7 +200,7 @@ def listed_line(it, owner, number, count):
         return f"# entry {number}, not looked at: " + (operation_words(code) if known == "operation" else WHY[known])
     if code == 0:
         return f"# entry {number}, left out: a no-op"
-    if code in FURTHER:
+    if code in FURTHER and code not in CHECKSUMS:
         return f"# entry {number}, left out: {operation_words(code)}"
     if any(span.start < ADDED + 32 * count and ADDED < span.stop and len(span) for span in known[0] + known[1]):
         return f"# entry {number}, left out: it touches addresses that this list keeps for records"
@@ -252,16 +258,23 @@ def as_list(recording):
     return ran.stdout.decode()
 
 
+def expect_list(recording, place):
+    """The list of a recording is the wanted one."""
+    text = as_list(recording)
+    common.expect(text == wanted_list(recording), f"{place}: another list")
+    return text
+
+
 def lists():
-    """Random recordings as lists, and entries around the records that a list adds. What the planner submits has a line
-    for each piece. The least plan of a list costs at most what the recording costs with the missing fences, if no
-    operation is repeated."""
+    """Random recordings as lists. What the planner submits has a line for each piece. The least plan of a list costs at
+    most what the recording costs with the missing fences, and one before each member that shares a record or repeats an
+    operation."""
     explained = 0
     for seed in range(audit_model.COUNT):
         recording = Maker(seed, has_repeats=False).recording()
-        text = as_list(recording)
-        common.expect(text == wanted_list(recording), f"seed {seed}: another list")
-        costs = audited(recording)[0]["costs"]
+        text = expect_list(recording, f"seed {seed}")
+        report = audited(recording)[0]
+        costs, kinds = report["costs"], [it["what"]["kind"] for it in report["findings"]]
         ran = subprocess.run([program("dsa_text"), "explain", "--json"], input=text.encode(), capture_output=True)
         is_refused = ran.returncode == 1 and re.search(rb"\[(?!130 Line\])\d+ [A-Z]\w*", ran.stderr)
         said = f"{ran.returncode}: {ran.stderr[:300]}"
@@ -269,19 +282,27 @@ def lists():
         if ran.returncode == 0:
             # a batch of one member has no price: its member would cost 10 by itself
             bound = costs["corrected"] + 10 * single_batches(recording)
+            bound += 3 * (kinds.count("shared record") + kinds.count(audit_model.REPEATED))
             least = json.loads(ran.stdout)["cost"]
             common.expect(least <= bound, f"seed {seed}: the least plan costs {least}, the recording {costs}")
             explained += 1
     common.expect(explained > audit_model.COUNT // 20, f"only {explained} lists were explained")
+    for path, portal, staging, address in planned_jobs():
+        text = expect_list(recorded(portal, staging, address), path)
+        common.expect("left out" not in text, f"{path}: a piece was left out")
+
+
+def listed_entries():
+    """Entries around the records that a list adds, compares with each expected result, and checksums with each flag of
+    their own, with all other flags and without a record, whatever is where they have no field."""
     for first in (ADDED - 65, ADDED - 64, ADDED - 63, ADDED, ADDED + 95, ADDED + 96, WRAP - 64):
         recording = b"".join(entry(MOVE, 0, 0, first, 0x2000 + 64 * k, 64) for k in range(3))
-        common.expect(as_list(recording) == wanted_list(recording), f"a source at {first:#x}: another list")
+        expect_list(recording, f"a source at {first:#x}")
     for code, flags, expected in itertools.product((COMPARE, PATTERN, MOVE), (0x0C, 0x8C), (0, 1, 2, 255)):
         recording = entry(code, flags, 0x8000, 0x1000, 0x2000, 8, expected)
-        place = f"operation {code}, flags {flags:#x}, {expected}"
-        common.expect(as_list(recording) == wanted_list(recording), f"{place}: another list")
-    for path, portal, staging, address in planned_jobs():
-        recording = recorded(portal, staging, address)
-        text = as_list(recording)
-        common.expect(text == wanted_list(recording), f"{path}: another list")
-        common.expect("left out" not in text, f"{path}: a piece was left out")
+        expect_list(recording, f"operation {code}, flags {flags:#x}, {expected}")
+    some = (0x0C, 0x01000C, 0x02000C, 0x04000C, 0x07000C, 0x05008D, 0xFFFFFF, 0x030004)
+    places = (0, 0x9010, ADDED - 4, ADDED - 3, ADDED + 31, ADDED + 32)
+    for code, flags, at in itertools.product(CHECKSUMS, some, places):
+        recording = entry(code, flags, 0x8000, 0x1000, 0x2000, 64, 0x0102030405060708, last=at + (3 << 64))
+        expect_list(recording, f"operation {code}, flags {flags:#x}, {at:#x}")

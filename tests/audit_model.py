@@ -11,7 +11,7 @@ from pathlib import Path
 
 import common
 from audit_entries import (
-    BLOCKS, CHECK, COPY_CRC, CRC, CREATE, DRAIN, FURTHER, INSERT, STRIP, UPDATE, WRAP, accesses, batch, batches_of,
+    BLOCKS, CHECK, CHECKSUMS, CREATE, DRAIN, FURTHER, INSERT, STRIP, UPDATE, WRAP, accesses, batch, batches_of,
     can_fail, conflict, entry, has_record, has_reserved_bytes, is_misaligned, is_repeat, operands_of, owner_of, parts_of,
     record_of,
     shares_record, shows, span, touches_record,
@@ -332,7 +332,7 @@ class Maker:
         return 0x1000 + 8 * self.random.randrange(self.crowd)
 
     def further(self, code, flags, record, size):
-        """An operation beyond those of a plan. The seed of a checksum may be in the record of another member."""
+        """An operation beyond those of a descriptor. The seed of a checksum may be in the record of another member."""
         block, first, second, last = self.random.choices(range(4), [10, 10, 1, 1])[0], self.address(), self.address(), 0
         if code in (CHECK, INSERT, STRIP, UPDATE):
             size = self.random.randint(0, 2) * (BLOCKS[block] + 8 * (code != INSERT))
@@ -340,9 +340,9 @@ class Maker:
         own = self.address() if code == CREATE else block << 16
         if code == CREATE:
             last = 10 * self.random.randint(0, 2)
-        if code in (CRC, COPY_CRC):
+        if code in CHECKSUMS:
             last = self.address() if self.random.random() < 0.5 else (record & -32) - 32 * self.random.randrange(2)
-        if code in (CRC, COPY_CRC, DRAIN) and self.random.random() < 0.5:
+        if code in (*CHECKSUMS, DRAIN) and self.random.random() < 0.5:
             flags |= self.random.choice([0x010000, 0x010000, 0x020000])
         return entry(code, flags, record, first, second, size, own, last=last)
 

@@ -81,9 +81,9 @@ def USING():
         "Two queues, and no wait between",
     ):
         session(block_after("docs/USING.md", words))
-    # the list has nine operations that one batch holds; three wait for the one before, and two come after a barrier
+    # the list has ten operations that one batch holds; four wait for the one before, and two come after a barrier
     got = printed("dsa_text explain --greatest-transfer 2048M examples/audit/engine.xxd")
-    wanted = "cost 29; 9 lone submissions cost 90, saved 61\n"
+    wanted = "cost 32; 10 lone submissions cost 100, saved 68\n"
     expect(got.endswith(wanted), f"docs/USING.md: the recording is explained as {got!r}")
     noted(block_after("docs/USING.md", checking, "sh"))
 

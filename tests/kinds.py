@@ -7,7 +7,7 @@ from pathlib import Path
 
 from audit_entries import hexdump, plain, xxd
 from common import expect, move
-from model import COMPARE, Op
+from model import COMPARE, CRC, Op
 
 FIRST, SECOND = move(0x1000, 0x2000), move(0x5000, 0x6000, record_at=0x8020)
 LIST = FIRST.bytes() + SECOND.bytes(fenced=True)
@@ -19,19 +19,22 @@ FENCED = f"""group 0: batch of 2, 1 fence, 2 epochs, cost 17
 # without a barrier, and with these comments
 APART = "group 0: batch of 2, 0 fences, 1 epoch, cost 14\n  0: {}  1: {}cost 14; 2 lone submissions cost 20, saved 6\n"
 NOTHING = "cost 0; 0 lone submissions cost 0, saved 0\n"
-# a batch of a move, a CRC, which no list of a text has, and a compare with check that reads what the move writes
+# a batch of a move, a cache flush, which no list of a text has, and a CRC and a compare with check that read what the
+# move writes
 HEAD = bytes(4) + (0x0100000C).to_bytes(4, "little") + (0x7000).to_bytes(8, "little") + (0x10000).to_bytes(8, "little")
-HEAD += bytes(8) + (3).to_bytes(4, "little") + bytes(28)
-CRC = Op(0x10, 0x2000, 0x8020, 0x900000, 0).bytes()
+HEAD += bytes(8) + (4).to_bytes(4, "little") + bytes(28)
+FLUSH = Op(0x20, 0x2000, 0x8020, 0, 0x900000).bytes()
+SUM = Op(CRC, 64, 0x8060, 0x2000, 0, 5).bytes()
 CHECK = Op(COMPARE, 8, 0x8040, 0x2000, 0x3000, 1, 0x8C).bytes()
-RECORDING = HEAD + FIRST.bytes() + CRC + CHECK
-LISTED = """group 0: batch of 2, 1 fence, 2 epochs, cost 17
+RECORDING = HEAD + FIRST.bytes() + FLUSH + SUM + CHECK
+LISTED = """group 0: batch of 3, 1 fence, 2 epochs, cost 17
   0: move 0x1000 -> 0x2000, 64 bytes, record 0x8000 # entry 1
-  -- fence, cost 3: 1 after 0, read after write at 0x2000
-  1: compare 0x2000 with 0x3000, 8 bytes, expect 1, record 0x8040, check # entry 3
-cost 17; 2 lone submissions cost 20, saved 3
+  -- fence, cost 3: 1 after 0, read after write at 0x2000, and 1 more
+  1: crc 0x2000, 64 bytes, seed 0x5, record 0x8060 # entry 3
+  2: compare 0x2000 with 0x3000, 8 bytes, expect 1, record 0x8040, check # entry 4
+cost 17; 3 lone submissions cost 30, saved 13
 """
-LEFT = "note: left out: 1 of 3 operations, each for the reason in its comment: "
+LEFT = "note: left out: 1 of 4 operations, each for the reason in its comment: "
 LEFT += "no plan has them, and no cost counts them\n"
 EMPTY = "note: the list is empty\n"
 NO_OPERATIONS = "note: this list is empty: the recording has no operations\n"
@@ -138,7 +141,7 @@ def refused(text):
     error = "error: operation 1: its PASID or privilege is not the first operation's: pasid 5, and not pasid 0"
     answered(text, "", owners, 1, "", f"{bytes_of_list}{error} [12 MixedPasid 1]\n")
     # a batch whose members are not there
-    cut = "entry 0: error: the recording ends after 1 of the 3 members of this batch: if members are not recorded, "
+    cut = "entry 0: error: the recording ends after 1 of the 4 members of this batch: if members are not recorded, "
     answered(text, "", RECORDING[:128], 1, "", f"{taken('a recording')}{cut}give a dump of them with --staging\n")
     for given, place in [(xxd(interrupt).replace("0000 ", "00g0 ", 1), (1, 13)), ("0c000003 8\n00 x", (2, 4))]:
         answered(text, "", given.encode(), 1, "", taken("a dump") + DIGIT(*place))

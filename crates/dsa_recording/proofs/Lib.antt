@@ -6,6 +6,7 @@ mod Lacking
 mod Streamed
 pub mod Outcomes
 pub mod Reasons
+mod EntryOps
 pub mod Listed
 pub mod Pushed
 pub mod Reaudited

@@ -1,5 +1,5 @@
 -- The lines of submissions, one after another.
-use Rattle.std.proofs.Common.{◌≡◌, ℕ, zero, suc, Bool, true, false, ◌+◌, ◌<◌, ◌≤◌, List, [], ◌∷◌, ◌++◌, length, get_or, drop, take, refl, sym, ap, subst, ◌∙◌, arith}
+use Rattle.std.proofs.Common.{◌≡◌, ℕ, zero, suc, ◌+◌, ◌<◌, ◌≤◌, List, [], ◌∷◌, ◌++◌, length, get_or, drop, take, refl, sym, ap, subst, ◌∙◌, arith}
 use Rattle.std.proofs.lemmas.List.{append_assoc, append-nil, length-append}
 use Rattle.std.proofs.lemmas.List.Sums.{sum_by-cons}
 use Rattle.std.specs.List.{AllByRecursion, sum_by}
@@ -10,40 +10,17 @@ use Rattle.dsa_recording.specs.declared.submission.Audited.{Audited}
 use Rattle.dsa_recording.specs.declared.report.Report.{Report}
 use Rattle.dsa_recording.specs.Submissions.{IsWithin, IsAudited, AreAudited}
 use Rattle.dsa_recording.specs.Reports.{IsReport, reported_by}
-use Rattle.std.specs.Prelude.{codes, slice_index_or}
-use Rattle.dsa_descriptor.specs.declared.op.Op.{Op}
-use Rattle.dsa_descriptor.specs.Profile.{required_flags}
-use Rattle.dsa_lines.specs.Options.{flags_with}
+use Rattle.std.specs.Prelude.{slice_index_or}
 use Rattle.dsa_operations.specs.OperationFields.{OperationFields}
-use Rattle.dsa_operations.specs.OperationFields.OperationFields.{OfDescriptor}
-use Rattle.dsa_lines.specs.Text.{line_text, op_words, text_of}
-use Rattle.dsa_lines.proofs.RoundTrip.{later_is, line_is}
 use Rattle.dsa_audit.specs.declared.member.Member.{Member}
 use Rattle.dsa_audit.specs.declared.needless.FenceUse.{FenceUse}
 use Rattle.dsa_audit.specs.declared.needless.FenceUse.TheVariants.{NoFence}
-use Rattle.dsa_recording.specs.Listings.{check_words, fence_line, member_line, member_lines, submission_lines, member_operation, member_operations, listed_operations, AreEntries}
+use Rattle.dsa_recording.specs.Listings.{fence_line, member_line, member_lines, submission_lines, member_operation, member_operations, listed_operations, AreEntries}
 use Rattle.dsa_recording.specs.Totals.{member_count}
 use Rattle.dsa_recording.proofs.Within.{each_within}
 use Rattle.dsa_recording.proofs.Found.{entry_within}
 
--- ---- a line
-
-checked_tail : (t : List ℕ) → (((t ++ []) ++ []) ++ []) ++ codes ", check" ≡ ((t ++ codes ", check") ++ []) ++ []
-checked_tail t =
-    ap (λ (s : List ℕ). s ++ codes ", check") (append-nil ((t ++ []) ++ []) ∙ append-nil (t ++ []) ∙ append-nil t)
-    ∙ sym (append-nil ((t ++ codes ", check") ++ []) ∙ append-nil (t ++ codes ", check"))
-
--- the line of an operation without flags of its own, with what is said of its check after it, is that with the flag
-pub checked_line : (checked : Bool) (pasid : ℕ) (privileged : Bool) (record_at size : ℕ) (op : Op)
-    → line_text (OfDescriptor (record { pasid = pasid; privileged = privileged; flags = required_flags; record_at = record_at; size = size; int_handle = 0; op = op })) ++ check_words checked
-    ≡ line_text (OfDescriptor (record { pasid = pasid; privileged = privileged; flags = flags_with 0 checked; record_at = record_at; size = size; int_handle = 0; op = op }))
-checked_line true pasid privileged record_at size op =
-    let front : List ℕ = text_of (op_words op size) in
-    let plain : OperationFields = OfDescriptor (record { pasid = pasid; privileged = privileged; flags = required_flags; record_at = record_at; size = size; int_handle = 0; op = op }) in
-    let checked : OperationFields = OfDescriptor (record { pasid = pasid; privileged = privileged; flags = flags_with 0 true; record_at = record_at; size = size; int_handle = 0; op = op }) in
-    ap (λ (s : List ℕ). s ++ codes ", check") (line_is plain ∙ later_is front record_at pasid privileged required_flags 0) ∙ checked_tail _
-    ∙ sym (line_is checked ∙ later_is front record_at pasid privileged (flags_with 0 true) 0)
-checked_line false pasid privileged record_at size op = append-nil _
+-- ---- lines
 
 dropped : (uses : List FenceUse) (k : ℕ) → get_or (drop 1 uses) k NoFence ≡ get_or uses (suc k) NoFence
 dropped [] k = refl

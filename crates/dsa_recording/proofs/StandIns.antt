@@ -1,22 +1,23 @@
--- The operations of a list conflict just where their entries do.
-use Rattle.std.proofs.Common.{◌≡◌, ◌≢◌, ℕ, ◌+◌, ◌*◌, ◌<◌, ◌⊎◌, inl, inr, Bool, true, false, List, [], ◌∷◌, ◌++◌, Option, Some, refl, sym, ap, subst, ◌∙◌, arith}
+-- The operations of a list conflict exactly if their entries do.
+use Rattle.std.proofs.Common.{◌≡◌, ◌≢◌, ℕ, ◌+◌, ◌*◌, ◌<◌, ◌⊎◌, inl, inr, Bool, true, false, List, [], ◌∷◌, ◌++◌, Some, refl, sym, ap, subst, ◌∙◌, arith}
 use Rattle.std.specs.Prelude.{◌↔◌, ◌&&◌, ◌||◌, ◌==◌, bit_and, if◌then◌else◌}
 use Rattle.std.specs.List.{list_all}
 use Rattle.std.proofs.Math.Dec.{leb}
 use Rattle.std.proofs.lemmas.Bool.{eqb-true, leb-true}
-use Rattle.dsa_descriptor.specs.declared.op.Op.{Op}
 use Rattle.dsa_descriptor.specs.declared.op.Op.TheVariants.{Move, Fill, Compare, ComparePattern, ApplyDelta, Dualcast}
 use Rattle.dsa_descriptor.specs.declared.span.Span.{Span}
-use Rattle.dsa_descriptor.specs.Data.{sources, targets, record_span}
-use Rattle.dsa_descriptor.specs.Places.{u32_at, u64_at, flags_at, op_at}
+use Rattle.dsa_descriptor.specs.Data.{record_span}
+use Rattle.dsa_descriptor.specs.Places.{u32_at, u64_at, flags_at, pasid_at, privileged_at}
 use Rattle.dsa_descriptor.specs.Profile.{required_flags}
 use Rattle.dsa_descriptor.specs.Spans.{InSpan, InSome}
 use Rattle.dsa_ranges.specs.declared.span.Touched.{Touched}
-use Rattle.dsa_ranges.specs.Ranges.{SpansConflict, WritesInto, read_spans, written_spans}
+use Rattle.dsa_ranges.specs.Ranges.{SpansConflict, WritesInto}
 use Rattle.dsa_audit.specs.Members.{TouchedConflict}
-use Rattle.dsa_recording.specs.Entries.{sources_of, targets_of}
-use Rattle.dsa_recording.specs.Furthers.{further_at}
-use Rattle.dsa_recording.specs.Listings.{expecting_zero, is_checked, op_in_list, requested_records, records_from, stand_in, is_clear, Does, StandInsConflict}
+use Rattle.dsa_lines.specs.declared.operations.LineOp.{LineOp}
+use Rattle.dsa_lines.specs.declared.operations.LineOp.TheVariants as line_op
+use Rattle.dsa_lines.specs.Options.{fields_by}
+use Rattle.dsa_recording.specs.Listings.{listed_op, record_in_list, expecting_zero, flags_in_list, is_checked, requested_records, records_from, stand_in, is_clear, fields_reads, fields_writes, Does, StandInsConflict}
+use Rattle.dsa_recording.proofs.EntryOps.{op_sources, op_targets, entry_reads_by, entry_targets_by}
 
 -- ---- spans that are clear of the added records
 
@@ -30,7 +31,7 @@ either true b e = inl refl
 either false true e = inr refl
 either false false e = absurd cc
 
--- the record that entry k gets where it requests none
+-- the record that entry k gets if it requests none
 abbrev added : ℕ → Span
 added k = record_span (records_from + 32 * k)
 
@@ -114,53 +115,57 @@ adds_by : (b : Bool) (k own : ℕ) (ss : List Span)
 adds_by true k own ss = record { had = λ a there. inl there; has = λ a there. there }
 adds_by false k own ss = record { had = λ a there. turned k a ss there; has = λ a there. inr there }
 
-same_sources : (op : Op) (size : ℕ) → sources (expecting_zero op) size ≡ sources op size
-same_sources (Move src dst) size = refl
-same_sources (Fill pattern dst) size = refl
-same_sources (Compare src src2 expected) size = refl
-same_sources (ComparePattern src pattern expected) size = refl
-same_sources (ApplyDelta delta dst record_size) size = refl
-same_sources (Dualcast src dst dst2) size = refl
+-- what the list has reads and writes the same, also if it expects another result
+listed_reads : (checked : Bool) (op : LineOp) (pasid : ℕ) (privileged : Bool) (flags record_at size : ℕ)
+    → fields_reads (fields_by (if checked then op else expecting_zero op) pasid privileged flags record_at size 0) ≡ op_sources op size
+listed_reads true (line_op.Descriptor op) pasid privileged flags record_at size = refl
+listed_reads true (line_op.Checksum op) pasid privileged flags record_at size = refl
+listed_reads false (line_op.Descriptor (Move src dst)) pasid privileged flags record_at size = refl
+listed_reads false (line_op.Descriptor (Fill pattern dst)) pasid privileged flags record_at size = refl
+listed_reads false (line_op.Descriptor (Compare src src2 expected)) pasid privileged flags record_at size = refl
+listed_reads false (line_op.Descriptor (ComparePattern src pattern expected)) pasid privileged flags record_at size = refl
+listed_reads false (line_op.Descriptor (ApplyDelta delta dst record_size)) pasid privileged flags record_at size = refl
+listed_reads false (line_op.Descriptor (Dualcast src dst dst2)) pasid privileged flags record_at size = refl
+listed_reads false (line_op.Checksum op) pasid privileged flags record_at size = refl
 
-same_targets : (op : Op) (size : ℕ) → targets (expecting_zero op) size ≡ targets op size
-same_targets (Move src dst) size = refl
-same_targets (Fill pattern dst) size = refl
-same_targets (Compare src src2 expected) size = refl
-same_targets (ComparePattern src pattern expected) size = refl
-same_targets (ApplyDelta delta dst record_size) size = refl
-same_targets (Dualcast src dst dst2) size = refl
+listed_writes : (checked : Bool) (op : LineOp) (pasid : ℕ) (privileged : Bool) (flags record_at size : ℕ)
+    → fields_writes (fields_by (if checked then op else expecting_zero op) pasid privileged flags record_at size 0) ≡ record_span record_at ∷ op_targets op size
+listed_writes true (line_op.Descriptor op) pasid privileged flags record_at size = refl
+listed_writes true (line_op.Checksum op) pasid privileged flags record_at size = refl
+listed_writes false (line_op.Descriptor (Move src dst)) pasid privileged flags record_at size = refl
+listed_writes false (line_op.Descriptor (Fill pattern dst)) pasid privileged flags record_at size = refl
+listed_writes false (line_op.Descriptor (Compare src src2 expected)) pasid privileged flags record_at size = refl
+listed_writes false (line_op.Descriptor (ComparePattern src pattern expected)) pasid privileged flags record_at size = refl
+listed_writes false (line_op.Descriptor (ApplyDelta delta dst record_size)) pasid privileged flags record_at size = refl
+listed_writes false (line_op.Descriptor (Dualcast src dst dst2)) pasid privileged flags record_at size = refl
+listed_writes false (line_op.Checksum op) pasid privileged flags record_at size = refl
 
--- so with the operation as it is, if its result is checked
-listed_sources : (checked : Bool) (op : Op) (size : ℕ) → sources (if checked then op else expecting_zero op) size ≡ sources op size
-listed_sources true op size = refl
-listed_sources false op size = same_sources op size
-
-listed_targets : (checked : Bool) (op : Op) (size : ℕ) → targets (if checked then op else expecting_zero op) size ≡ targets op size
-listed_targets true op size = refl
-listed_targets false op size = same_targets op size
-
-writes : (k : ℕ) (e : List ℕ) (t : Touched) (op : Op) → Does e t → op_at e ≡ Some op → Adds k (written_spans (stand_in k e op)) t.writes.items
+writes : (k : ℕ) (e : List ℕ) (t : Touched) (op : LineOp) → Does e t → listed_op e ≡ Some op → Adds k (fields_writes (stand_in k e op)) t.writes.items
 writes k e t op does is =
     let size : ℕ = u32_at 32 e in
-    let listed : Op = op_in_list op (flags_at e) in
-    let ranges : targets_of (op_at e) size (further_at e) ≡ targets listed size = ap (λ (o : Option Op). targets_of o size (further_at e)) is ∙ sym (listed_targets (is_checked op (flags_at e)) op size) in
-    let whole : t.writes.items ≡ requested_records e ++ targets listed size = does.writes ∙ ap (λ (ss : List Span). requested_records e ++ ss) ranges in
-    subst (Adds k (written_spans (stand_in k e op))) (sym whole)
-    (adds_by (bit_and (flags_at e) required_flags == required_flags) k (u64_at 8 e) (targets listed size))
+    let flags : ℕ = flags_at e in
+    let whole : t.writes.items ≡ requested_records e ++ op_targets op size = does.writes ∙ ap (λ (ss : List Span). requested_records e ++ ss) (entry_targets_by e op is) in
+    let there : fields_writes (stand_in k e op) ≡ record_span (record_in_list k e) ∷ op_targets op size =
+    listed_writes (is_checked op flags) op (pasid_at e) (privileged_at e) (flags_in_list op flags) (record_in_list k e) size in
+    subst (λ (ss : List Span). Adds k ss t.writes.items) (sym there) (subst (Adds k (record_span (record_in_list k e) ∷ op_targets op size)) (sym whole)
+    (adds_by (bit_and flags required_flags == required_flags) k (u64_at 8 e) (op_targets op size)))
 
-reads : (k : ℕ) (e : List ℕ) (t : Touched) (op : Op) → Does e t → op_at e ≡ Some op → read_spans (stand_in k e op) ≡ t.reads.items
-reads k e t op does is = sym (does.reads ∙ ap (λ (o : Option Op). sources_of o (u32_at 32 e) (further_at e)) is ∙ sym (listed_sources (is_checked op (flags_at e)) op (u32_at 32 e)))
+reads : (k : ℕ) (e : List ℕ) (t : Touched) (op : LineOp) → Does e t → listed_op e ≡ Some op → fields_reads (stand_in k e op) ≡ t.reads.items
+reads k e t op does is =
+    let flags : ℕ = flags_at e in
+    listed_reads (is_checked op flags) op (pasid_at e) (privileged_at e) (flags_in_list op flags) (record_in_list k e) (u32_at 32 e)
+    ∙ sym (does.reads ∙ entry_reads_by e op is)
 
 pub stand_ins_conflict : StandInsConflict
 stand_ins_conflict count m n d e t u o p unlike lt lt' first second o_is p_is t_clear u_clear =
     let t_all = both (list_all (is_clear count) t.reads.items) (list_all (is_clear count) t.writes.items) t_clear in
     let u_all = both (list_all (is_clear count) u.reads.items) (list_all (is_clear count) u.writes.items) u_clear in
-    subst (λ (r : List Span). SpansConflict r (written_spans (stand_in m d o)) (read_spans (stand_in n e p)) (written_spans (stand_in n e p)) ↔ TouchedConflict t u)
+    subst (λ (r : List Span). SpansConflict r (fields_writes (stand_in m d o)) (fields_reads (stand_in n e p)) (fields_writes (stand_in n e p)) ↔ TouchedConflict t u)
     (sym (reads m d t o first o_is))
-    (subst (λ (s : List Span). SpansConflict t.reads.items (written_spans (stand_in m d o)) s (written_spans (stand_in n e p)) ↔ TouchedConflict t u)
+    (subst (λ (s : List Span). SpansConflict t.reads.items (fields_writes (stand_in m d o)) s (fields_writes (stand_in n e p)) ↔ TouchedConflict t u)
     (sym (reads n e u p second p_is)) (
-      fewer count m n t.reads.items t.writes.items (written_spans (stand_in m d o)) u.reads.items u.writes.items (written_spans (stand_in n e p)) unlike lt lt'
+      fewer count m n t.reads.items t.writes.items (fields_writes (stand_in m d o)) u.reads.items u.writes.items (fields_writes (stand_in n e p)) unlike lt lt'
           (writes m d t o first o_is) (writes n e u p second p_is) t_all.0 t_all.1 u_all.0 u_all.1,
-      more m n t.reads.items t.writes.items (written_spans (stand_in m d o)) u.reads.items u.writes.items (written_spans (stand_in n e p))
+      more m n t.reads.items t.writes.items (fields_writes (stand_in m d o)) u.reads.items u.writes.items (fields_writes (stand_in n e p))
           (writes m d t o first o_is) (writes n e u p second p_is),
     ))

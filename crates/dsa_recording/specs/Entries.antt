@@ -25,7 +25,7 @@ use Rattle.dsa_audit.specs.declared.member.Member.TheVariants.{Known, Unknown}
 abbrev pub records_of : List ℕ → List Span
 records_of e = if bit_and (flags_at e) 0x04 == 0x04 then record_span (u64_at 8 e) ∷ [] else []
 
--- the data that an operation of no plan reads; a no-op has none
+-- the data that an operation beyond the six of a descriptor reads; a no-op has none
 abbrev pub further_reads : Option Further → List Span
 further_reads None = []
 further_reads (Some further) = read_by further
@@ -35,7 +35,7 @@ abbrev pub further_writes : Option Further → List Span
 further_writes None = []
 further_writes (Some further) = written_by further
 
--- the data that an operation of a plan, of this size, reads; or another
+-- the data that an operation of a descriptor, of this size, reads; or another
 abbrev pub sources_of : Option Op → ℕ → Option Further → List Span
 sources_of (Some op) size further = sources op size
 sources_of None size further = further_reads further
@@ -89,7 +89,7 @@ action_of e =
 -- ---- why it is not looked at (this project's choice)
 
 -- the reason applies, whether or not another does: all 64 bytes are zero, as in memory that nobody wrote; the operation is
--- none of a plan's and none of the further ones, nor a no-op (code 0x00), nor a batch (0x01); it is a batch; PASID or
+-- none of the six and none of the further ones, nor a no-op (code 0x00), nor a batch (0x01); it is a batch; PASID or
 -- privilege differ from those of the head; the size is 0, of that of a no-op or of a drain (0x02) nothing is asked; a span
 -- goes past 2 ^ 64
 abbrev pub Applies : List ℕ → List ℕ → Unseen → Type 0

@@ -3,10 +3,15 @@ use Rattle.std.specs.Prelude.{ℕ, ◌==◌, List, [], ◌∷◌, ◌++◌, code
 use Rattle.dsa_descriptor.specs.declared.op.Op.{Op}
 use Rattle.dsa_descriptor.specs.declared.span.Span.{Span}
 use Rattle.dsa_descriptor.specs.Places.{u32_at, u64_at, code_at, op_at}
+use Rattle.dsa_descriptor.specs.Spans.{span}
+use Rattle.dsa_operations.specs.declared.checksum_op.ChecksumOp.{ChecksumOp}
+use Rattle.dsa_operations.specs.declared.checksum_op.ChecksumOp.TheVariants.{Crc, CopyCrc}
+use Rattle.dsa_operations.specs.declared.checksum_op.Seed.{Seed}
+use Rattle.dsa_operations.specs.declared.checksum_op.Seed.TheVariants.{Given, At}
 use Rattle.dsa_lines.specs.Numbers.{hex}
 use Rattle.dsa_lines.specs.Text.{text_of, op_words}
 use Rattle.dsa_recording.specs.declared.further.Further.{Further}
-use Rattle.dsa_recording.specs.declared.further.Further.TheVariants.{Drain, CreateDelta, TranslationFetch, Crc, CopyCrc, DifCheck, DifInsert, DifStrip, DifUpdate, CacheFlush}
+use Rattle.dsa_recording.specs.declared.further.Further.TheVariants.{Drain, CreateDelta, TranslationFetch, Checksum, DifCheck, DifInsert, DifStrip, DifUpdate, CacheFlush}
 use Rattle.dsa_recording.specs.Furthers.{further_at, code_name}
 
 -- a number of bytes
@@ -22,22 +27,26 @@ abbrev pub copy_words : Span → Span → List ℕ
 copy_words src dst = hex src.first ++ (codes " -> " ++ (hex dst.first ++ (codes ", " ++ (decimal src.len ++ codes " bytes"))))
 
 -- where the seed of a checksum is, if it is in memory
-abbrev pub seed_words : Option Span → List ℕ
-seed_words None = []
-seed_words (Some seed) = codes ", seed at " ++ hex seed.first
+abbrev pub seed_words : Seed → List ℕ
+seed_words (Given value) = []
+seed_words (At address) = codes ", seed at " ++ hex address
+
+-- a checksum of this size
+abbrev pub checksum_words : ChecksumOp → ℕ → List ℕ
+checksum_words (Crc src seed) size = codes "CRC " ++ (data_words (span src size) ++ seed_words seed)
+checksum_words (CopyCrc src dst seed) size = codes "copy with CRC " ++ (copy_words (span src size) (span dst size) ++ seed_words seed)
 
 -- two sources, where the delta of them is written, and their size
 abbrev pub create_words : Span → Span → Span → List ℕ
 create_words first second delta = codes "create delta " ++ (hex first.first ++ (codes " with " ++ (hex second.first
     ++ (codes " -> " ++ (hex delta.first ++ (codes ", " ++ (decimal first.len ++ codes " bytes")))))))
 
--- an operation that no plan has
+-- an operation beyond the six of a descriptor
 abbrev pub further_words : Further → List ℕ
 further_words Drain = codes "drain"
 further_words (CreateDelta first second delta) = create_words first second delta
 further_words TranslationFetch = codes "translation fetch"
-further_words (Crc src seed) = codes "CRC " ++ (data_words src ++ seed_words seed)
-further_words (CopyCrc src dst seed) = codes "copy with CRC " ++ (copy_words src dst ++ seed_words seed)
+further_words (Checksum op size) = checksum_words op size
 further_words (DifCheck src) = codes "DIF check " ++ data_words src
 further_words (DifInsert src dst) = codes "DIF insert " ++ copy_words src dst
 further_words (DifStrip src dst) = codes "DIF strip " ++ copy_words src dst

@@ -8,7 +8,7 @@ use Rattle.dsa_audit.specs.declared.member.Member.{Member}
 use Rattle.dsa_audit.specs.declared.member.Member.TheVariants.{Known, Unknown}
 use Rattle.dsa_audit.specs.declared.member.Unseen.TheVariants.{Operation}
 use Rattle.dsa_recording.specs.declared.further.Further.{Further}
-use Rattle.dsa_recording.specs.declared.further.Further.TheVariants.{Drain, CreateDelta, TranslationFetch, Crc, CopyCrc, DifCheck, DifInsert, DifStrip, DifUpdate, CacheFlush}
+use Rattle.dsa_recording.specs.declared.further.Further.TheVariants.{Drain, CreateDelta, TranslationFetch, Checksum, DifCheck, DifInsert, DifStrip, DifUpdate, CacheFlush}
 use Rattle.dsa_recording.specs.Furthers.{further_at}
 use Rattle.dsa_recording.specs.declared.assumptions.Assumptions.{Assumptions}
 
@@ -23,8 +23,7 @@ can_further_fail None flags = false
 can_further_fail (Some Drain) flags = true
 can_further_fail (Some (CreateDelta first second delta)) flags = checks_result flags
 can_further_fail (Some TranslationFetch) flags = true
-can_further_fail (Some (Crc src seed)) flags = false
-can_further_fail (Some (CopyCrc src dst seed)) flags = false
+can_further_fail (Some (Checksum op size)) flags = false
 can_further_fail (Some (DifCheck src)) flags = true
 can_further_fail (Some (DifInsert src dst)) flags = true
 can_further_fail (Some (DifStrip src dst)) flags = true

@@ -1,11 +1,14 @@
--- What operations beyond those of a plan read and write, beside their completion records. Where a rule has no other source
--- it is that of specification 341204, operations; places of bytes are those of linux/idxd.h.
-use Rattle.std.specs.Prelude.{ℕ, ◌+◌, ◌-◌, ◌*◌, ◌/◌, ◌%◌, ◌^◌, ◌==◌, bit_and, Bool, List, [], ◌∷◌, codes, Option, Some, None, slice_index, if◌then◌else◌}
+-- What operations beyond the six of a descriptor read and write, beside their completion records. Where a rule has no other
+-- source it is that of specification 341204, operations; places of bytes are those of linux/idxd.h.
+use Rattle.std.specs.Prelude.{ℕ, ◌+◌, ◌-◌, ◌*◌, ◌/◌, ◌%◌, ◌^◌, ◌==◌, Bool, List, [], ◌∷◌, codes, Option, Some, None, slice_index, if◌then◌else◌}
 use Rattle.dsa_descriptor.specs.declared.span.Span.{Span}
 use Rattle.dsa_descriptor.specs.Places.{u32_at, u64_at, flags_at, code_at}
 use Rattle.dsa_descriptor.specs.Spans.{span}
+use Rattle.dsa_operations.specs.declared.checksum_op.ChecksumOp.{ChecksumOp}
+use Rattle.dsa_operations.specs.Data.{sources, targets}
+use Rattle.dsa_operations.specs.Places.{checksum_at}
 use Rattle.dsa_recording.specs.declared.further.Further.{Further}
-use Rattle.dsa_recording.specs.declared.further.Further.TheVariants.{Drain, CreateDelta, TranslationFetch, Crc, CopyCrc, DifCheck, DifInsert, DifStrip, DifUpdate, CacheFlush}
+use Rattle.dsa_recording.specs.declared.further.Further.TheVariants.{Drain, CreateDelta, TranslationFetch, Checksum, DifCheck, DifInsert, DifStrip, DifUpdate, CacheFlush}
 
 -- ---- what an entry says
 
@@ -26,10 +29,6 @@ drain_at e = if flags_at e / 2 ^ 16 == 0 then Some Drain else None
 -- it counts as written is this project's choice
 abbrev pub create_delta_at : List ℕ → Further
 create_delta_at e = CreateDelta (first_data e) (second_data e) (span (u64_at 40 e) (u32_at 48 e))
-
--- with the flag 0x010000 the seed of a CRC is read from 4 bytes at the address in bytes 48 to 55
-abbrev pub seed_at : List ℕ → Option Span
-seed_at e = if bit_and (flags_at e) 0x010000 == 0x010000 then Some (span (u64_at 48 e) 4) else None
 
 -- the data bytes of a block with a data integrity field, by bits 0 and 1 of byte 42
 abbrev pub block_by : ℕ → ℕ
@@ -59,15 +58,13 @@ on_fields e further = if has_whole_fields e then Some further else None
 abbrev pub strip_at : List ℕ → Further
 strip_at e = DifStrip (first_data e) (span (u64_at 24 e) (u32_at 32 e - 8 * (u32_at 32 e / (block_at e + 8))))
 
--- the operation of an entry, if it is one of these codes, and what it reads and writes is certain (codes: linux/idxd.h; that
+-- the operation of an entry, if it has one of these codes, and what it reads and writes is certain (codes: linux/idxd.h; that
 -- of a translation fetch is of the specification alone; a cache flush has a destination)
-unfoldable pub further_at : List ℕ → Option Further
-further_at e =
+unfoldable pub other_at : List ℕ → Option Further
+other_at e =
     if code_at e == 0x02 then drain_at e else
     if code_at e == 0x07 then Some (create_delta_at e) else
     if code_at e == 0x0a then Some TranslationFetch else
-    if code_at e == 0x10 then Some (Crc (first_data e) (seed_at e)) else
-    if code_at e == 0x11 then Some (CopyCrc (first_data e) (second_data e) (seed_at e)) else
     if code_at e == 0x12 then on_fields e (DifCheck (first_data e)) else
     if code_at e == 0x13 then insert_at e else
     if code_at e == 0x14 then on_fields e (strip_at e) else
@@ -75,20 +72,23 @@ further_at e =
     if code_at e == 0x20 then Some (CacheFlush (second_data e)) else
     None
 
--- ---- what it does
+-- a checksum of this size, or another operation if there is none
+abbrev pub checksum_or : Option ChecksumOp → ℕ → Option Further → Option Further
+checksum_or None size other = other
+checksum_or (Some op) size other = Some (Checksum op size)
 
--- the seed of a CRC, if it is read
-abbrev pub seed_spans : Option Span → List Span
-seed_spans None = []
-seed_spans (Some seed) = seed ∷ []
+-- the operation of an entry, if it is a checksum or one of the others
+unfoldable pub further_at : List ℕ → Option Further
+further_at e = checksum_or (checksum_at e) (u32_at 32 e) (other_at e)
+
+-- ---- what it does
 
 -- what it reads; that a flush of caches counts as a read is this project's choice: it comes after writes of what it flushes
 abbrev pub read_by : Further → List Span
 read_by Drain = []
 read_by (CreateDelta first second delta) = first ∷ second ∷ []
 read_by TranslationFetch = []
-read_by (Crc src seed) = src ∷ seed_spans seed
-read_by (CopyCrc src dst seed) = src ∷ seed_spans seed
+read_by (Checksum op size) = sources op size
 read_by (DifCheck src) = src ∷ []
 read_by (DifInsert src dst) = src ∷ []
 read_by (DifStrip src dst) = src ∷ []
@@ -100,8 +100,7 @@ abbrev pub written_by : Further → List Span
 written_by Drain = []
 written_by (CreateDelta first second delta) = delta ∷ []
 written_by TranslationFetch = []
-written_by (Crc src seed) = []
-written_by (CopyCrc src dst seed) = dst ∷ []
+written_by (Checksum op size) = targets op size
 written_by (DifCheck src) = []
 written_by (DifInsert src dst) = dst ∷ []
 written_by (DifStrip src dst) = dst ∷ []

@@ -1,15 +1,13 @@
--- What a recording says of listed descriptors, and a report of entries.
+-- What a recording says of listed operations, and a report of entries.
 use Rattle.std.specs.Prelude.{◌≡◌, ℕ, max, true, List, ◌++◌}
-use Rattle.dsa_descriptor.specs.declared.descriptor.Descriptor.{Descriptor}
-use Rattle.dsa_descriptor.specs.Descriptors.{fields}
 use Rattle.dsa_descriptor.specs.Lists.{AgreeOnOwner}
-use Rattle.dsa_descriptor.specs.Spelling.{spelling}
 use Rattle.dsa_audit.specs.declared.hazard.Hazards.{Hazards}
 use Rattle.dsa_ranges.specs.declared.span.Touched.{Touched}
 use Rattle.dsa_audit.specs.Members.{AreHazardsBetween}
-use Rattle.dsa_ranges.specs.Ranges.{read_spans, written_spans}
 use Rattle.dsa_audit.specs.declared.member.Member.{Member}
 use Rattle.dsa_audit.specs.declared.member.Member.TheVariants.{Known}
+use Rattle.dsa_operations.specs.declared.operation.Operation.{Operation}
+use Rattle.dsa_operations.specs.Operations.{spelling_of, reads_of, writes_of}
 use Rattle.std.specs.List.{AllByRecursion}
 use Rattle.dsa_descriptor.specs.Lists.{entries}
 use Rattle.dsa_recording.specs.declared.answer.AuditOptions.{AuditOptions}
@@ -28,15 +26,14 @@ use Rattle.dsa_recording.specs.Parts.{HasStatus}
 use Rattle.dsa_recording.specs.Reports.{IsReport, Reported}
 use Rattle.dsa_recording.specs.Submissions.{IsWithin, members_in}
 
--- the entry of a listed descriptor, in a batch of its owner, is looked at, and what is known of it is what the
--- descriptor reads and writes
+-- the entry of an operation of a list, in a batch of its owner, is looked at, and what is known of it is what the operation
+-- reads and writes
 abbrev pub ListedAreKnown : Type 0
 ListedAreKnown =
-    (d : Descriptor) (head : List ℕ) (m : Member) →
-    AgreeOnOwner head (spelling (fields d)) → IsMember Whole head (spelling (fields d)) m →
-    (t : Touched) × (m ≡ Known t) × (t.reads.items ≡ read_spans (fields d)) × (t.writes.items ≡ written_spans (fields d))
+    (o : Operation) (head : List ℕ) (m : Member) → AgreeOnOwner head (spelling_of o) → IsMember Whole head (spelling_of o) m →
+    (t : Touched) × (m ≡ Known t) × (t.reads.items ≡ reads_of o) × (t.writes.items ≡ writes_of o)
 
--- where one recording follows another, the status of both is the greater one
+-- if one recording follows another, the status of both is the greater one
 abbrev pub StatusesJoin : Type 0
 StatusesJoin =
     (options : AuditOptions) (a b : List ℕ) (s t : ℕ) → HasStatus options a s → HasStatus options b t → HasStatus options (a ++ b) (max s t)

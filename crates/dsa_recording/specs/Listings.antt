@@ -1,24 +1,28 @@
 -- A recording as a list of operations to plan (this project's choice): a line for each member, in the order of the entries.
-use Rattle.std.specs.Prelude.{ℕ, suc, ◌≡◌, ◌≢◌, ◌+◌, ◌*◌, ◌^◌, ◌<◌, ◌≤◌, ◌-◌, ◌&&◌, ◌||◌, ◌==◌, ◌↔◌, nat_le, bit_and, Bool, true, false, List, [], ◌∷◌, ◌++◌, drop, length, slice_index_or, codes, decimal, map, Option, Some, None, if◌then◌else◌}
+use Rattle.std.specs.Prelude.{ℕ, suc, ◌≡◌, ◌≢◌, ◌+◌, ◌*◌, ◌^◌, ◌<◌, ◌≤◌, ◌-◌, ◌&&◌, ◌||◌, ◌==◌, ◌↔◌, nat_le, bit_and, bit_or, Bool, true, List, [], ◌∷◌, ◌++◌, drop, length, slice_index_or, codes, decimal, map, Option, Some, None, if◌then◌else◌}
 use Rattle.std.specs.List.{list_all, sum_by}
 use Rattle.dsa_descriptor.specs.declared.op.Op.{Op}
 use Rattle.dsa_descriptor.specs.declared.op.Op.TheVariants.{Move, Fill, Compare, ComparePattern, ApplyDelta, Dualcast}
 use Rattle.dsa_descriptor.specs.declared.span.Span.{Span}
-use Rattle.dsa_descriptor.specs.Fields.{Fields}
 use Rattle.dsa_descriptor.specs.Places.{u32_at, u64_at, flags_at, code_at, op_at, pasid_at, privileged_at}
 use Rattle.dsa_descriptor.specs.Data.{record_span}
 use Rattle.dsa_descriptor.specs.Profile.{required_flags}
 use Rattle.dsa_ranges.specs.declared.span.Touched.{Touched}
-use Rattle.dsa_ranges.specs.Ranges.{Conflicts}
+use Rattle.dsa_ranges.specs.Ranges.{SpansConflict, read_spans, written_spans}
 use Rattle.dsa_audit.specs.declared.member.Member.{Member}
 use Rattle.dsa_audit.specs.declared.member.Member.TheVariants.{Known, Unknown}
 use Rattle.dsa_audit.specs.declared.needless.FenceUse.{FenceUse}
 use Rattle.dsa_audit.specs.declared.needless.FenceUse.TheVariants as fence_use
 use Rattle.dsa_audit.specs.Members.{TouchedConflict}
+use Rattle.dsa_operations.specs.declared.checksum_op.ChecksumOp.{ChecksumOp}
 use Rattle.dsa_operations.specs.declared.operation.Operation.{Operation}
+use Rattle.dsa_operations.specs.Data.{checksum_reads, checksum_writes}
 use Rattle.dsa_operations.specs.OperationFields.{OperationFields, operation_fields}
-use Rattle.dsa_operations.specs.OperationFields.OperationFields.{OfDescriptor}
-use Rattle.dsa_lines.specs.Options.{flags_with}
+use Rattle.dsa_operations.specs.OperationFields.OperationFields.{OfDescriptor, OfChecksum}
+use Rattle.dsa_operations.specs.Places.{checksum_at}
+use Rattle.dsa_lines.specs.declared.operations.LineOp.{LineOp}
+use Rattle.dsa_lines.specs.declared.operations.LineOp.TheVariants as line_op
+use Rattle.dsa_lines.specs.Options.{fields_by}
 use Rattle.dsa_lines.specs.Text.{line_text}
 use Rattle.dsa_lines.specs.Texts.{TextSpells}
 use Rattle.dsa_recording.specs.declared.stream.Submission.{Submission}
@@ -31,7 +35,17 @@ use Rattle.dsa_recording.specs.Words.{unseen_words}
 
 -- ---- the operation of an entry
 
--- each operation of a list has a completion record. Where an entry requests none, it gets one from this address on, which
+-- the operation of a descriptor if there is one, else the checksum
+abbrev pub either_op : Option Op → Option ChecksumOp → Option LineOp
+either_op (Some op) checksum = Some (line_op.Descriptor op)
+either_op None (Some op) = Some (line_op.Checksum op)
+either_op None None = None
+
+-- the operation that an entry names, if a list may have it
+abbrev pub listed_op : List ℕ → Option LineOp
+listed_op e = either_op (op_at e) (checksum_at e)
+
+-- each operation of a list has a completion record. If an entry requests none, it gets one from this address on, which
 -- lies between the addresses of programs and those of a kernel
 abbrev pub records_from : ℕ
 records_from = 2 ^ 62
@@ -41,51 +55,56 @@ abbrev pub record_in_list : ℕ → List ℕ → ℕ
 record_in_list number e =
     if bit_and (flags_at e) required_flags == required_flags then u64_at 8 e else records_from + 32 * number
 
+-- the flags of an entry that change what its operation does: check result of a compare; of a checksum, that its seed is read
+-- from memory, 0x010000, and those that say which checksum it is, 0x020000 and 0x040000 (specification 341204, flags and CRC
+-- generation)
+abbrev pub kept_flags : LineOp → ℕ
+kept_flags (line_op.Descriptor (Move src dst)) = 0
+kept_flags (line_op.Descriptor (Fill pattern dst)) = 0
+kept_flags (line_op.Descriptor (Compare src src2 expected)) = 0x80
+kept_flags (line_op.Descriptor (ComparePattern src pattern expected)) = 0x80
+kept_flags (line_op.Descriptor (ApplyDelta delta dst record_size)) = 0
+kept_flags (line_op.Descriptor (Dualcast src dst dst2)) = 0
+kept_flags (line_op.Checksum op) = 0x070000
+
+-- the flags that the list has: those that it requires, and of the entry's these
+abbrev pub flags_in_list : LineOp → ℕ → ℕ
+flags_in_list op flags = bit_or required_flags (bit_and flags (kept_flags op))
+
 -- the operation is a compare with the flag check result, whose status says whether it found what it expects
-abbrev pub is_checked : Op → ℕ → Bool
-is_checked (Move src dst) flags = false
-is_checked (Fill pattern dst) flags = false
-is_checked (Compare src src2 expected) flags = checks_result flags
-is_checked (ComparePattern src pattern expected) flags = checks_result flags
-is_checked (ApplyDelta delta dst record_size) flags = false
-is_checked (Dualcast src dst dst2) flags = false
+abbrev pub is_checked : LineOp → ℕ → Bool
+is_checked op flags = checks_result (flags_in_list op flags)
 
 -- the operation with the expected result 0
-abbrev pub expecting_zero : Op → Op
-expecting_zero (Move src dst) = Move src dst
-expecting_zero (Fill pattern dst) = Fill pattern dst
-expecting_zero (Compare src src2 expected) = Compare src src2 0
-expecting_zero (ComparePattern src pattern expected) = ComparePattern src pattern 0
-expecting_zero (ApplyDelta delta dst record_size) = ApplyDelta delta dst record_size
-expecting_zero (Dualcast src dst dst2) = Dualcast src dst dst2
+abbrev pub expecting_zero : LineOp → LineOp
+expecting_zero (line_op.Descriptor (Move src dst)) = line_op.Descriptor (Move src dst)
+expecting_zero (line_op.Descriptor (Fill pattern dst)) = line_op.Descriptor (Fill pattern dst)
+expecting_zero (line_op.Descriptor (Compare src src2 expected)) = line_op.Descriptor (Compare src src2 0)
+expecting_zero (line_op.Descriptor (ComparePattern src pattern expected)) = line_op.Descriptor (ComparePattern src pattern 0)
+expecting_zero (line_op.Descriptor (ApplyDelta delta dst record_size)) = line_op.Descriptor (ApplyDelta delta dst record_size)
+expecting_zero (line_op.Descriptor (Dualcast src dst dst2)) = line_op.Descriptor (Dualcast src dst dst2)
+expecting_zero (line_op.Checksum op) = line_op.Checksum op
 
 -- the operation as the list has it. Nothing rests on a result that is not checked, and a recorded one may be none that a list
 -- has, so it is 0
-abbrev pub op_in_list : Op → ℕ → Op
+abbrev pub op_in_list : LineOp → ℕ → LineOp
 op_in_list op flags = if is_checked op flags then op else expecting_zero op
 
 -- a list has no other expected results than 0 and 1
-abbrev pub expects_bit : Op → Bool
-expects_bit (Move src dst) = true
-expects_bit (Fill pattern dst) = true
-expects_bit (Compare src src2 expected) = nat_le expected 1
-expects_bit (ComparePattern src pattern expected) = nat_le expected 1
-expects_bit (ApplyDelta delta dst record_size) = true
-expects_bit (Dualcast src dst dst2) = true
+abbrev pub expects_bit : LineOp → Bool
+expects_bit (line_op.Descriptor (Move src dst)) = true
+expects_bit (line_op.Descriptor (Fill pattern dst)) = true
+expects_bit (line_op.Descriptor (Compare src src2 expected)) = nat_le expected 1
+expects_bit (line_op.Descriptor (ComparePattern src pattern expected)) = nat_le expected 1
+expects_bit (line_op.Descriptor (ApplyDelta delta dst record_size)) = true
+expects_bit (line_op.Descriptor (Dualcast src dst dst2)) = true
+expects_bit (line_op.Checksum op) = true
 
--- what the list has for the entry of this number: its operation, size and owner, with that record, and with no other
--- flags than a list requires and check result, if a compare has that
-abbrev pub stand_in : ℕ → List ℕ → Op → Fields
+-- what the list has for the entry of this number: its operation, size and owner, with that record, these flags and no
+-- interrupt handle
+abbrev pub stand_in : ℕ → List ℕ → LineOp → OperationFields
 stand_in number e op =
-    record {
-      pasid = pasid_at e;
-      privileged = privileged_at e;
-      flags = flags_with 0 (is_checked op (flags_at e));
-      record_at = record_in_list number e;
-      size = u32_at 32 e;
-      int_handle = 0;
-      op = op_in_list op (flags_at e);
-    }
+    fields_by (op_in_list op (flags_at e)) (pasid_at e) (privileged_at e) (flags_in_list op (flags_at e)) (record_in_list number e) (u32_at 32 e) 0
 
 -- the span has no address, or lies below the records that entries of this number may get, or above them
 abbrev pub is_clear : ℕ → Span → Bool
@@ -102,15 +121,15 @@ abbrev pub left_out : ℕ → List ℕ → List ℕ
 left_out number why = codes "# entry " ++ (decimal number ++ (codes ", " ++ why))
 
 -- an operation, and after it the number of its entry
-abbrev pub operation_line : ℕ → List ℕ → Op → List ℕ
-operation_line number e op = line_text (OfDescriptor (stand_in number e op)) ++ (codes " # entry " ++ decimal number)
+abbrev pub operation_line : ℕ → List ℕ → LineOp → List ℕ
+operation_line number e op = line_text (stand_in number e op) ++ (codes " # entry " ++ decimal number)
 
--- a no-op has no line, and no list has an operation that no plan has
+-- a no-op has no line, nor has an operation that no list may have
 abbrev pub plain_words : ℕ → List ℕ
 plain_words code = if code == 0 then codes "left out: a no-op" else codes "left out: " ++ operation_words code
 
--- an entry that is looked at has the line of its operation, where a list has that and it is apart from added records
-abbrev pub known_line : ℕ → ℕ → List ℕ → Touched → Option Op → List ℕ
+-- an entry that is looked at has the line of its operation, if a list has that and it is apart from added records
+abbrev pub known_line : ℕ → ℕ → List ℕ → Touched → Option LineOp → List ℕ
 known_line count number e t None = left_out number (plain_words (code_at e))
 known_line count number e t (Some op) =
     if is_apart_from_added count t
@@ -121,7 +140,7 @@ known_line count number e t (Some op) =
 
 -- the line of a member: its operation, or why there is none
 abbrev pub member_line : ℕ → ℕ → List ℕ → Member → List ℕ
-member_line count number e (Known t) = known_line count number e t (op_at e)
+member_line count number e (Known t) = known_line count number e t (listed_op e)
 member_line count number e (Unknown why) = left_out number (unseen_words why (code_at e))
 
 -- ---- the list
@@ -156,16 +175,16 @@ submission_lines es (s ∷ ss) (a ∷ audits) = member_lines es s.first a.member
 -- ---- its operations
 
 -- that of an entry that is looked at is in the list if it has one that a list has and is apart from added records
-abbrev pub known_operation : ℕ → ℕ → List ℕ → Touched → Option Op → List OperationFields
+abbrev pub known_operation : ℕ → ℕ → List ℕ → Touched → Option LineOp → List OperationFields
 known_operation count number e t None = []
 known_operation count number e t (Some op) =
     if is_apart_from_added count t
-    then (if expects_bit (op_in_list op (flags_at e)) then OfDescriptor (stand_in number e op) ∷ [] else [])
+    then (if expects_bit (op_in_list op (flags_at e)) then stand_in number e op ∷ [] else [])
     else []
 
 -- the operation of a member, if the list has it
 abbrev pub member_operation : ℕ → ℕ → List ℕ → Member → List OperationFields
-member_operation count number e (Known t) = known_operation count number e t (op_at e)
+member_operation count number e (Known t) = known_operation count number e t (listed_op e)
 member_operation count number e (Unknown why) = []
 
 -- those of members, of which the first is entry `at`
@@ -213,12 +232,27 @@ pub record Does (e : List ℕ) (t : Touched) : Type 0 where
   pub reads : t.reads.items ≡ entry_reads e
   pub writes : t.writes.items ≡ requested_records e ++ entry_targets e
 
--- two operations of the list conflict just where their entries do
+-- all that an operation with these fields reads (specification 341204, operations)
+abbrev pub fields_reads : OperationFields → List Span
+fields_reads (OfDescriptor f) = read_spans f
+fields_reads (OfChecksum f) = checksum_reads f
+
+-- all that it writes, its completion record first
+abbrev pub fields_writes : OperationFields → List Span
+fields_writes (OfDescriptor f) = written_spans f
+fields_writes (OfChecksum f) = checksum_writes f
+
+-- some address is written by one of the two and read or written by the other (this project's choice, as for the operations
+-- of a list)
+abbrev pub FieldsConflict : OperationFields → OperationFields → Type 0
+FieldsConflict f g = SpansConflict (fields_reads f) (fields_writes f) (fields_reads g) (fields_writes g)
+
+-- two operations of the list conflict exactly if their entries do
 abbrev pub StandInsConflict : Type 0
 StandInsConflict =
-    (count m n : ℕ) (d e : List ℕ) (t u : Touched) (o p : Op) → m ≢ n → m < count → n < count →
-    Does d t → Does e u → op_at d ≡ Some o → op_at e ≡ Some p → is_apart_from_added count t ≡ true → is_apart_from_added count u ≡ true →
-    Conflicts (stand_in m d o) (stand_in n e p) ↔ TouchedConflict t u
+    (count m n : ℕ) (d e : List ℕ) (t u : Touched) (o p : LineOp) → m ≢ n → m < count → n < count →
+    Does d t → Does e u → listed_op d ≡ Some o → listed_op e ≡ Some p → is_apart_from_added count t ≡ true → is_apart_from_added count u ≡ true →
+    FieldsConflict (stand_in m d o) (stand_in n e p) ↔ TouchedConflict t u
 
 -- the list spells its operations, if each is one that a list may have: an entry may have another, with a record at
 -- no multiple of 32, say
@@ -235,7 +269,3 @@ AreEntries es [] [] = Unit
 AreEntries es (s ∷ ss) (a ∷ audits) = (s.first + length a.members.items ≤ length es) × AreEntries es ss audits
 AreEntries es [] (a ∷ audits) = ⊥
 AreEntries es (s ∷ ss) [] = ⊥
-
--- what a line has after its owner if the result is checked
-abbrev pub check_words : Bool → List ℕ
-check_words checked = if checked then codes ", check" else []

@@ -8,8 +8,10 @@ use Rattle.dsa_descriptor.specs.Profile.{required_flags}
 use Rattle.dsa_audit.specs.declared.member.Member.{Member}
 use Rattle.dsa_audit.specs.declared.member.Member.TheVariants.{Known, Unknown}
 use Rattle.dsa_audit.specs.declared.member.Unseen.TheVariants.{Operation}
+use Rattle.dsa_operations.specs.declared.checksum_op.ChecksumOp.{ChecksumOp}
+use Rattle.dsa_operations.specs.declared.checksum_op.ChecksumOp.TheVariants.{Crc, CopyCrc}
 use Rattle.dsa_recording.specs.declared.further.Further.{Further}
-use Rattle.dsa_recording.specs.declared.further.Further.TheVariants.{Drain, CreateDelta, TranslationFetch, Crc, CopyCrc, DifCheck, DifInsert, DifStrip, DifUpdate, CacheFlush}
+use Rattle.dsa_recording.specs.declared.further.Further.TheVariants.{Drain, CreateDelta, TranslationFetch, Checksum, DifCheck, DifInsert, DifStrip, DifUpdate, CacheFlush}
 use Rattle.dsa_recording.specs.Furthers.{further_at}
 use Rattle.dsa_recording.specs.declared.assumptions.Assumptions.{Assumptions}
 use Rattle.dsa_recording.specs.declared.assumptions.Await.{Await}
@@ -36,14 +38,18 @@ writes_record assumed m e = has_record (flags_at e) && (requests_record (flags_a
 abbrev pub is_signal : Assumptions → Member → List ℕ → Bool
 is_signal assumed m e = asks_interrupt (flags_at e) || writes_record assumed m e
 
--- an operation that no plan has writes data
+-- a checksum copies what it is of
+abbrev pub is_copy : ChecksumOp → Bool
+is_copy (Crc src seed) = false
+is_copy (CopyCrc src dst seed) = true
+
+-- an operation beyond the six of a descriptor writes data
 abbrev pub writes_further : Option Further → Bool
 writes_further None = false
 writes_further (Some Drain) = false
 writes_further (Some (CreateDelta first second delta)) = true
 writes_further (Some TranslationFetch) = false
-writes_further (Some (Crc src seed)) = false
-writes_further (Some (CopyCrc src dst seed)) = true
+writes_further (Some (Checksum op size)) = is_copy op
 writes_further (Some (DifCheck src)) = false
 writes_further (Some (DifInsert src dst)) = true
 writes_further (Some (DifStrip src dst)) = true

@@ -3,12 +3,13 @@
 ghost use Rattle.std.specs.Prelude.{◌≡◌, ◌++◌, IfOk, OnOk, codes, string_bytes};
 ghost use Rattle.dsa_descriptor.specs.Places.{code_at};
 ghost use Rattle.dsa_recording.specs.Furthers.{code_name};
-ghost use Rattle.dsa_recording.specs.EntryWords.{batch_words, bytes_words, copy_words, create_words, data_words, descriptor_words, further_words, in_brackets, operation_words, other_words, seed_words};
+ghost use Rattle.dsa_recording.specs.EntryWords.{batch_words, bytes_words, checksum_words, copy_words, create_words, data_words, descriptor_words, further_words, in_brackets, operation_words, other_words, seed_words};
 
 use crate::entry::Header;
 use crate::further::{Further, code_name, further_at};
 use dsa_descriptor::{Span, op_at, u64_at};
 use dsa_lines::op_text;
+use dsa_operations::{ChecksumOp, Seed};
 use std::alloc::{AllocError, Global};
 
 /// A number of bytes.
@@ -44,20 +45,17 @@ fn create_text(alloc: Global, first: Span, second: Span, delta: Span) -> Result<
 }
 
 /// Writes where the seed of a checksum is, if it is in memory.
-fn push_seed(alloc: Global, text: &mut String, seed: Option<Span>) -> Result<(), AllocError>
+fn push_seed(alloc: Global, text: &mut String, seed: Seed) -> Result<(), AllocError>
     ensures { OnOk result (string_bytes text.new ≡ string_bytes text.old ++ seed_words seed) }
 {
     match seed {
-        Some(seed) => {
-            let at = seed.first;
-            text.push_str(&format!(in alloc; ", seed at 0x{at:x}")?)
-        }
-        None => Ok(()),
+        Seed::At(address) => text.push_str(&format!(in alloc; ", seed at 0x{address:x}")?),
+        Seed::Given(_) => Ok(()),
     }
 }
 
 /// What a checksum is of.
-fn crc_text(alloc: Global, src: Span, seed: Option<Span>) -> Result<String, AllocError>
+fn crc_text(alloc: Global, src: Span, seed: Seed) -> Result<String, AllocError>
     ensures { IfOk result (λ s. string_bytes s ≡ codes "CRC " ++
         (data_words src ++ seed_words seed)) }
 {
@@ -67,12 +65,7 @@ fn crc_text(alloc: Global, src: Span, seed: Option<Span>) -> Result<String, Allo
 }
 
 /// What a copy with a checksum does.
-fn copy_crc_text(
-    alloc: Global,
-    src: Span,
-    dst: Span,
-    seed: Option<Span>,
-) -> Result<String, AllocError>
+fn copy_crc_text(alloc: Global, src: Span, dst: Span, seed: Seed) -> Result<String, AllocError>
     ensures { IfOk result (λ s. string_bytes s ≡ codes "copy with CRC " ++
         (copy_words src dst ++ seed_words seed)) }
 {
@@ -81,7 +74,22 @@ fn copy_crc_text(
     Ok(text)
 }
 
-/// What an operation does that no plan has.
+/// What an operation that makes a checksum does.
+fn checksum_text(alloc: Global, op: ChecksumOp, size: u32) -> Result<String, AllocError>
+    ensures { IfOk result (λ s. string_bytes s ≡ checksum_words op size) }
+{
+    match op {
+        ChecksumOp::Crc { src, seed } => crc_text(alloc, Span::of(src, size), seed),
+        ChecksumOp::CopyCrc { src, dst, seed } => copy_crc_text(
+            alloc,
+            Span::of(src, size),
+            Span::of(dst, size),
+            seed,
+        ),
+    }
+}
+
+/// What an operation beyond the six of a descriptor does.
 fn further_text(alloc: Global, further: Further) -> Result<String, AllocError>
     ensures { IfOk result (λ s. string_bytes s ≡ further_words further) }
 {
@@ -93,8 +101,7 @@ fn further_text(alloc: Global, further: Further) -> Result<String, AllocError>
             delta,
         } => create_text(alloc, first, second, delta),
         Further::TranslationFetch => String::from_str(alloc, "translation fetch"),
-        Further::Crc { src, seed } => crc_text(alloc, src, seed),
-        Further::CopyCrc { src, dst, seed } => copy_crc_text(alloc, src, dst, seed),
+        Further::Checksum { op, size } => checksum_text(alloc, op, size),
         Further::DifCheck { src } => data_text(alloc, "DIF check ", src),
         Further::DifInsert { src, dst } => copy_text(alloc, "DIF insert ", src, dst),
         Further::DifStrip { src, dst } => copy_text(alloc, "DIF strip ", src, dst),

@@ -13,14 +13,14 @@ use dsa_audit::Member;
 use dsa_descriptor::{FlagWord, Op, op_at};
 use std::alloc::{AllocError, Global};
 
-/// Whether an operation that no plan has can fail by its result.
+/// Whether an operation beyond the six of a descriptor can fail by its result.
 fn can_further_fail(entry: &[u8; 64], is_checked: bool) -> bool
     requires { is_checked ≡ checks_result (flags_at entry.now) }
     ensures { result ≡ can_further_fail (further_at entry.now) (flags_at entry.now) }
 {
     match further_at(entry) {
         None => false,
-        Some(Further::Crc { .. } | Further::CopyCrc { .. } | Further::CacheFlush { .. }) => false,
+        Some(Further::Checksum { .. } | Further::CacheFlush { .. }) => false,
         Some(Further::CreateDelta { .. }) => is_checked,
         Some(Further::DifCheck { .. } | Further::DifInsert { .. }) => true,
         Some(Further::DifStrip { .. } | Further::DifUpdate { .. }) => true,

@@ -1,14 +1,14 @@
-//! Operations beyond those of a plan: what they read and write, and their names.
+//! Operations beyond the six of a descriptor: what they read and write, and their names.
 
 ghost use Rattle.std.specs.Prelude.{◌≡◌, ◌≤◌, ◌∷◌, []};
-ghost use Rattle.dsa_recording.specs.Furthers.{first_data, second_data, drain_at, create_delta_at, seed_at, block_at, insert_at, has_whole_fields, on_fields, strip_at, further_at, seed_spans, read_by, written_by, code_name};
+ghost use Rattle.dsa_recording.specs.Furthers.{first_data, second_data, drain_at, create_delta_at, block_at, insert_at, has_whole_fields, on_fields, strip_at, other_at, further_at, read_by, written_by, code_name};
 
 use crate::entry::Header;
 use arrayvec::ArrayVec;
-use bitflags::Flags;
-use dsa_descriptor::{FlagWord, Span, u32_at, u64_at};
+use dsa_descriptor::{Span, u32_at, u64_at};
+use dsa_operations::{ChecksumOp, checksum_at};
 
-/// An operation that no plan has, with all that it reads and writes beside its completion record.
+/// An operation beyond the six of a descriptor, with all that it reads and writes beside its completion record.
 #[derive(Clone, Copy)]
 pub enum Further {
     /// Waits for earlier descriptors; in a batch the device refuses it.
@@ -24,21 +24,12 @@ pub enum Further {
     },
     /// Fetches translations of addresses.
     TranslationFetch,
-    /// Computes a checksum.
-    Crc {
-        /// What it is of.
-        src: Span,
-        /// Where its seed is read, if it is in memory.
-        seed: Option<Span>,
-    },
-    /// Copies, and computes the checksum.
-    CopyCrc {
-        /// The source.
-        src: Span,
-        /// The destination.
-        dst: Span,
-        /// Where its seed is read, if it is in memory.
-        seed: Option<Span>,
+    /// Makes a checksum.
+    Checksum {
+        /// With a copy or without.
+        op: ChecksumOp,
+        /// Of how many bytes.
+        size: u32,
     },
     /// Checks data integrity fields.
     DifCheck {
@@ -92,16 +83,6 @@ fn two(first: Span, second: Span) -> ArrayVec<Span, 2>
     spans
 }
 
-/// What a checksum reads: its source, and its seed if that is in memory.
-fn with_seed(src: Span, seed: Option<Span>) -> ArrayVec<Span, 2>
-    ensures { result.items ≡ src ∷ seed_spans seed }
-{
-    match seed {
-        None => one(src),
-        Some(seed) => two(src, seed),
-    }
-}
-
 impl Further {
     /// What the operation reads.
     pub fn sources(&self) -> ArrayVec<Span, 2>
@@ -110,7 +91,7 @@ impl Further {
         match *self {
             Further::Drain | Further::TranslationFetch => ArrayVec::new(),
             Further::CreateDelta { first, second, .. } => two(first, second),
-            Further::Crc { src, seed } | Further::CopyCrc { src, seed, .. } => with_seed(src, seed),
+            Further::Checksum { op, size } => op.sources(size),
             Further::DifCheck { src } | Further::DifInsert { src, .. } => one(src),
             Further::DifStrip { src, .. } | Further::DifUpdate { src, .. } => one(src),
             Further::CacheFlush { flushed } => one(flushed),
@@ -123,17 +104,14 @@ impl Further {
     {
         match *self {
             Further::Drain | Further::TranslationFetch => ArrayVec::new(),
-            Further::Crc { .. } | Further::DifCheck { .. } => ArrayVec::new(),
-            Further::CacheFlush { .. } => ArrayVec::new(),
+            Further::DifCheck { .. } | Further::CacheFlush { .. } => ArrayVec::new(),
             Further::CreateDelta { delta, .. } => one(delta),
-            Further::CopyCrc { dst, .. } | Further::DifInsert { dst, .. } => one(dst),
+            Further::Checksum { op, size } => op.targets(size),
+            Further::DifInsert { dst, .. } => one(dst),
             Further::DifStrip { dst, .. } | Further::DifUpdate { dst, .. } => one(dst),
         }
     }
 }
-
-/// That the seed of a checksum is in memory, at an address of the descriptor (specification 341204, CRC generation).
-const SEED_IN_MEMORY: FlagWord = FlagWord(0x01_0000);
 
 /// The first data of an entry.
 fn first_data(entry: &[u8; 64]) -> Span
@@ -168,17 +146,6 @@ fn create_delta_at(entry: &[u8; 64]) -> Further
         first: first_data(entry),
         second: second_data(entry),
         delta: Span::of(u64_at(entry, 40), u32_at(entry, 48)),
-    }
-}
-
-/// The seed of a checksum, if it is in memory.
-fn seed_at(entry: &[u8; 64]) -> Option<Span>
-    ensures { result ≡ seed_at entry.now }
-{
-    if Header::of(entry).flags.contains(SEED_IN_MEMORY) {
-        Some(Span::of(u64_at(entry, 48), 4))
-    } else {
-        None
     }
 }
 
@@ -248,23 +215,16 @@ fn on_fields(entry: &[u8; 64], further: Further) -> Option<Further>
     }
 }
 
-/// The operation of an entry, if no plan has it, and what it reads and writes is certain.
-#[tactic(auto, unfolding(crate::specs::Furthers::further_at))]
-pub fn further_at(entry: &[u8; 64]) -> Option<Further>
-    ensures { result ≡ further_at entry.now }
+/// The operation of an entry, if it is none of a descriptor and no checksum, and what it reads and writes is certain.
+#[tactic(auto, unfolding(crate::specs::Furthers::other_at))]
+fn other_at(entry: &[u8; 64]) -> Option<Further>
+    ensures { result ≡ other_at entry.now }
 {
     let (first, second) = (first_data(entry), second_data(entry));
-    let seed = seed_at(entry);
     match Header::of(entry).code {
         0x02 => drain_at(entry),
         0x07 => Some(create_delta_at(entry)),
         0x0a => Some(Further::TranslationFetch),
-        0x10 => Some(Further::Crc { src: first, seed }),
-        0x11 => Some(Further::CopyCrc {
-            src: first,
-            dst: second,
-            seed,
-        }),
         0x12 => on_fields(entry, Further::DifCheck { src: first }),
         0x13 => insert_at(entry),
         0x14 => on_fields(entry, strip_at(entry)),
@@ -280,7 +240,21 @@ pub fn further_at(entry: &[u8; 64]) -> Option<Further>
     }
 }
 
-/// The name of an operation code that no plan has; else nothing.
+/// The operation of an entry, if it is none of a descriptor, and what it reads and writes is certain.
+#[tactic(auto, unfolding(crate::specs::Furthers::further_at))]
+pub fn further_at(entry: &[u8; 64]) -> Option<Further>
+    ensures { result ≡ further_at entry.now }
+{
+    match checksum_at(entry) {
+        Some(op) => Some(Further::Checksum {
+            op,
+            size: Header::of(entry).size,
+        }),
+        None => other_at(entry),
+    }
+}
+
+/// The name of an operation code beyond the six of a descriptor; else nothing.
 pub fn code_name(code: u8) -> &'static str
     ensures { result.now ≡ code_name code }
 {

@@ -16,7 +16,7 @@ use crate::words::unseen_text;
 use dsa_audit::Hazards;
 use std::alloc::{AllocError, Global};
 
-/// The name of an operation that no plan has, or its code if it has none.
+/// The name of an operation beyond the six of a descriptor, or its code if it has none.
 fn name_or_code(alloc: Global, code: u8) -> Result<String, AllocError>
     ensures { IfOk result (λ s. string_bytes s ≡ name_or_code code (code_name code)) }
 {

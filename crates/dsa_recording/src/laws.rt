@@ -2,7 +2,7 @@
 
 ghost use Rattle.dsa_recording.specs.Laws.{ListedAreKnown, FenceKeysAgree, FindingsArePlaced, StatusesJoin};
 
-/// Listed descriptors are looked at, as what they read and write.
+/// Operations of a list are looked at, as what they read and write.
 pub fn listed_are_known()
     ensures { ListedAreKnown }
 {}

@@ -3,10 +3,9 @@
 ghost use Rattle.std.specs.Prelude.{ℕ, ◌≡◌, ◌≤◌, ◌<◌, ◌^◌, ◌+◌, ◌*◌, ◌++◌, ◌∷◌, [], length, slice_index_or, IfOk, MatchOption, OnOk, codes, decimal, string_bytes};
 ghost use Rattle.dsa_audit.specs.declared.needless.FenceUse.TheVariants.{NoFence};
 ghost use Rattle.std.specs.List.{list_all, sum_by};
-ghost use Rattle.dsa_descriptor.specs.Places.{code_at, op_at, pasid_at, privileged_at};
-ghost use Rattle.dsa_operations.specs.OperationFields.OperationFields.{OfDescriptor};
-ghost use Rattle.dsa_lines.specs.Text.{line_text};
-ghost use Rattle.dsa_recording.specs.Listings.{record_in_list, is_checked, check_words, stand_in, is_clear, expecting_zero, op_in_list, expects_bit, is_apart_from_added, left_out, operation_line, plain_words, barrier_for, fence_line, known_line, known_operation, member_line, member_lines, submission_lines, member_operation, member_operations, listed_operations, left_line, listing_text, AreEntries, StandInsConflict, ListingIsRead};
+ghost use Rattle.dsa_descriptor.specs.Places.{code_at};
+ghost use Rattle.dsa_lines.specs.Views.{view};
+ghost use Rattle.dsa_recording.specs.Listings.{listed_op, record_in_list, kept_flags, flags_in_list, is_checked, stand_in, is_clear, expecting_zero, op_in_list, expects_bit, is_apart_from_added, left_out, operation_line, plain_words, barrier_for, fence_line, known_line, known_operation, member_line, member_lines, submission_lines, member_operation, member_operations, listed_operations, left_line, listing_text, AreEntries, StandInsConflict, ListingIsRead};
 ghost use Rattle.dsa_recording.specs.Totals.{HasSums, member_count};
 
 use crate::entry::{Header, RECORD_REQUESTED};
@@ -17,11 +16,16 @@ use crate::words::unseen_text;
 use bitflags::Flags;
 use dsa_audit::{FenceUse, Member};
 use dsa_descriptor::{FlagWord, Op, Span, op_at};
+use dsa_lines::{Line, LineOp, line_of_fields};
+use dsa_operations::checksum_at;
 use dsa_ranges::Touched;
 use std::alloc::{AllocError, Global};
 
 /// The address of the first record that an entry gets which requests none.
 const RECORDS: u64 = 1 << 62;
+
+/// The flags that a checksum keeps: that its seed is read from memory, and which of the four it is.
+const CHECKSUM_FLAGS: u32 = 0x07_0000;
 
 /// The completion record of an entry in a list.
 fn record_in_list(entry: &[u8; 64], number: usize) -> u64
@@ -73,37 +77,70 @@ fn entry_text(alloc: Global, number: usize) -> Result<String, AllocError>
     format!(in alloc; " # entry {number}")
 }
 
+/// The operation that an entry names, if a list may have it.
+fn listed_op(entry: &[u8; 64]) -> Option<LineOp>
+    ensures { result ≡ listed_op entry.now }
+{
+    if let Some(op) = op_at(entry) {
+        return Some(LineOp::Descriptor(op));
+    }
+    match checksum_at(entry) {
+        Some(op) => Some(LineOp::Checksum(op)),
+        None => None,
+    }
+}
+
+/// The flags of an entry that change what its operation does.
+fn kept_flags(op: LineOp) -> u32
+    ensures { result ≡ kept_flags op }
+{
+    match op {
+        LineOp::Descriptor(Op::Compare { .. } | Op::ComparePattern { .. }) =>
+            FlagWord::CHECK_RESULT.0,
+        LineOp::Descriptor(Op::Move { .. } | Op::Fill { .. } | Op::Dualcast { .. }) => 0,
+        LineOp::Descriptor(Op::ApplyDelta { .. }) => 0,
+        LineOp::Checksum(_) => CHECKSUM_FLAGS,
+    }
+}
+
+/// The flags of the operation that stands for an entry with these flags.
+fn flags_in_list(op: LineOp, flags: FlagWord) -> FlagWord
+    ensures { result.0 ≡ flags_in_list op flags.0 }
+{
+    FlagWord(RECORD_REQUESTED.0 | (flags.0 & kept_flags(op)))
+}
+
 /// The operation with the expected result 0.
-fn expecting_zero(op: Op) -> Op
+fn expecting_zero(op: LineOp) -> LineOp
     ensures { result ≡ expecting_zero op }
 {
     match op {
-        Op::Compare { src, src2, .. } => Op::Compare {
+        LineOp::Descriptor(Op::Compare { src, src2, .. }) => LineOp::Descriptor(Op::Compare {
             src,
             src2,
             expected: 0,
-        },
-        Op::ComparePattern { src, pattern, .. } => Op::ComparePattern {
-            src,
-            pattern,
-            expected: 0,
-        },
-        Op::Move { .. } | Op::Fill { .. } | Op::ApplyDelta { .. } | Op::Dualcast { .. } => op,
+        }),
+        LineOp::Descriptor(Op::ComparePattern { src, pattern, .. }) => LineOp::Descriptor(
+            Op::ComparePattern {
+                src,
+                pattern,
+                expected: 0,
+            },
+        ),
+        LineOp::Descriptor(Op::Move { .. } | Op::Fill { .. } | Op::Dualcast { .. }) => op,
+        LineOp::Descriptor(Op::ApplyDelta { .. }) | LineOp::Checksum(_) => op,
     }
 }
 
 /// Whether an operation is a compare whose result is checked.
-fn is_checked(op: Op, flags: FlagWord) -> bool
+fn is_checked(op: LineOp, flags: FlagWord) -> bool
     ensures { result ≡ is_checked op flags.0 }
 {
-    match op {
-        Op::Compare { .. } | Op::ComparePattern { .. } => flags.contains(FlagWord::CHECK_RESULT),
-        Op::Move { .. } | Op::Fill { .. } | Op::ApplyDelta { .. } | Op::Dualcast { .. } => false,
-    }
+    flags_in_list(op, flags).contains(FlagWord::CHECK_RESULT)
 }
 
 /// The operation of an entry as a list has it: a compare expects 0 unless its result is checked.
-fn op_in_list(op: Op, flags: FlagWord) -> Op
+fn op_in_list(op: LineOp, flags: FlagWord) -> LineOp
     ensures { result ≡ op_in_list op flags.0 }
 {
     if is_checked(op, flags) {
@@ -113,36 +150,21 @@ fn op_in_list(op: Op, flags: FlagWord) -> Op
 }
 
 /// Whether no other result than 0 or 1 is expected.
-fn expects_bit(op: Op) -> bool
+fn expects_bit(op: LineOp) -> bool
     ensures { result ≡ expects_bit op }
 {
     match op {
-        Op::Compare { expected, .. } | Op::ComparePattern { expected, .. } => expected <= 1,
-        Op::Move { .. } | Op::Fill { .. } | Op::ApplyDelta { .. } | Op::Dualcast { .. } => true,
+        LineOp::Descriptor(Op::Compare { expected, .. } | Op::ComparePattern { expected, .. }) =>
+            expected <= 1,
+        LineOp::Descriptor(Op::Move { .. } | Op::Fill { .. } | Op::Dualcast { .. }) => true,
+        LineOp::Descriptor(Op::ApplyDelta { .. }) | LineOp::Checksum(_) => true,
     }
 }
 
-/// Writes that the result is checked, if it is.
-fn push_check(line: &mut String, is_checked: bool) -> Result<(), AllocError>
-    ensures { OnOk result
-        (string_bytes line.new ≡ string_bytes line.old ++ check_words is_checked) }
-{
-    if !is_checked {
-        return Ok(());
-    }
-    line.push_str(", check")
-}
-
-/// The operation that stands for an entry, as a line.
-fn stand_in_text(
-    alloc: Global,
-    number: usize,
-    entry: &[u8; 64],
-    op: &Op,
-) -> Result<String, AllocError>
+/// What the list has for an entry with this operation.
+fn stand_in(number: usize, entry: &[u8; 64], op: LineOp) -> Line
     requires { number < 2 ^ 58 }
-    ensures { IfOk result (λ line. string_bytes line ≡
-        line_text (OfDescriptor (stand_in number entry.now op.now))) }
+    ensures { view result ≡ stand_in number entry.now op }
 {
     let Header {
         owner,
@@ -150,13 +172,15 @@ fn stand_in_text(
         size,
         ..
     } = Header::of(entry);
-    let record_at = record_in_list(entry, number);
-    let (pasid, privileged) = (owner % (1 << 20), owner >> 31 == 1);
-    let is_checked = is_checked(*op, flags);
-    let op = op_in_list(*op, flags);
-    let mut line = dsa_lines::operation_line(alloc, &op, size, record_at, pasid, privileged)?;
-    push_check(&mut line, is_checked)?;
-    Ok(line)
+    Line {
+        pasid: owner % (1 << 20),
+        privileged: owner >> 31 == 1,
+        flags: flags_in_list(op, flags).0,
+        record_at: record_in_list(entry, number),
+        size,
+        int_handle: 0,
+        op: op_in_list(op, flags),
+    }
 }
 
 /// The line of the operation of an entry, with the entry's number.
@@ -164,12 +188,12 @@ fn operation_line(
     alloc: Global,
     number: usize,
     entry: &[u8; 64],
-    op: &Op,
+    op: LineOp,
 ) -> Result<String, AllocError>
     requires { number < 2 ^ 58 }
-    ensures { IfOk result (λ line. string_bytes line ≡ operation_line number entry.now op.now) }
+    ensures { IfOk result (λ line. string_bytes line ≡ operation_line number entry.now op) }
 {
-    let mut line = stand_in_text(alloc, number, entry, op)?;
+    let mut line = line_of_fields(alloc, &stand_in(number, entry, op))?;
     line.push_str(&entry_text(alloc, number)?)?;
     Ok(line)
 }
@@ -205,9 +229,9 @@ fn known_line(
     requires within { number < count }
     requires few { count ≤ 2 ^ 58 }
     ensures { IfOk result (λ line. string_bytes line ≡
-        known_line count number entry.now touched.now (op_at entry.now)) }
+        known_line count number entry.now touched.now (listed_op entry.now)) }
 {
-    let Some(op) = op_at(entry) else {
+    let Some(op) = listed_op(entry) else {
         return plain_line(alloc, number, entry);
     };
     if !is_apart_from_added(count, touched) {
@@ -215,7 +239,7 @@ fn known_line(
         return left_out(alloc, number, why);
     }
     if expects_bit(op_in_list(op, Header::of(entry).flags)) {
-        return operation_line(alloc, number, entry, &op);
+        return operation_line(alloc, number, entry, op);
     }
     let why = "left out: its check expects another result than 0 or 1";
     left_out(alloc, number, why)
@@ -322,10 +346,10 @@ fn push_members(
 fn known_count(count: usize, entry: &[u8; 64], touched: &Touched) -> usize
     requires { count ≤ 2 ^ 58 }
     ensures value { (number : ℕ) → result ≡
-        length (known_operation count number entry.now touched.now (op_at entry.now)) }
+        length (known_operation count number entry.now touched.now (listed_op entry.now)) }
     ensures few { result ≤ 1 }
 {
-    let Some(op) = op_at(entry) else {
+    let Some(op) = listed_op(entry) else {
         return 0;
     };
     if !is_apart_from_added(count, touched) {
@@ -446,12 +470,12 @@ pub(crate) fn listing_text(
     Ok(text)
 }
 
-/// Two operations of the list of a recording conflict just where their entries do.
+/// Two operations of the list of a recording conflict exactly if their entries do.
 pub fn stand_ins_conflict()
     ensures { StandInsConflict }
 {}
 
-/// The list of a recording is read as its operations, if each is one of a descriptor.
+/// The list of a recording is read as its operations, if each is one that a list may have.
 #[tactic(auto, using(crate::proofs::ListingRead::listing_is_read))]
 pub fn listing_is_read()
     ensures { ListingIsRead }

@@ -205,7 +205,7 @@ fn is_addressable(entry: &[u8; 64]) -> bool
     are_addressable(&touched.writes)
 }
 
-/// Whether the operation is none of a plan's, and none of the further ones.
+/// Whether the operation is none of a descriptor, and none of the further ones.
 fn is_unknown(entry: &[u8; 64]) -> bool
     ensures { IsTrue result ↔ (op_at entry.now ≡ None) × (further_at entry.now ≡ None) }
 {

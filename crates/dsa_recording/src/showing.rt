@@ -3,7 +3,7 @@
 ghost use Rattle.std.specs.Prelude.{◌≡◌, length, IfOk};
 ghost use Rattle.dsa_descriptor.specs.Places.{op_at};
 ghost use Rattle.dsa_recording.specs.Furthers.{further_at};
-ghost use Rattle.dsa_recording.specs.Showing.{writes_further, asks_interrupt, has_record, requests_record, writes_record, is_signal, writes_data, can_write, is_awaited_whole, is_marker, shows_beside_batch, can_show, AreVisible};
+ghost use Rattle.dsa_recording.specs.Showing.{is_copy, writes_further, asks_interrupt, has_record, requests_record, writes_record, is_signal, writes_data, can_write, is_awaited_whole, is_marker, shows_beside_batch, can_show, AreVisible};
 
 use crate::assumptions::{Assumptions, Await};
 use crate::entry::{Header, RECORD_REQUESTED};
@@ -12,6 +12,7 @@ use crate::further::{Further, further_at};
 use bitflags::Flags;
 use dsa_audit::Member;
 use dsa_descriptor::{FlagWord, Op, op_at};
+use dsa_operations::ChecksumOp;
 use std::alloc::{AllocError, Global};
 
 /// Whether the device raises an interrupt when the descriptor has ended.
@@ -44,15 +45,26 @@ fn is_signal(assumptions: Assumptions, member: &Member, entry: &[u8; 64]) -> boo
     asks_interrupt(Header::of(entry).flags) || writes_record(assumptions, member, entry)
 }
 
-/// Whether an operation that no plan has writes data.
+/// Whether a checksum copies what it is of.
+fn is_copy(op: ChecksumOp) -> bool
+    ensures { result ≡ is_copy op }
+{
+    match op {
+        ChecksumOp::Crc { .. } => false,
+        ChecksumOp::CopyCrc { .. } => true,
+    }
+}
+
+/// Whether an operation beyond the six of a descriptor writes data.
 fn writes_further(entry: &[u8; 64]) -> bool
     ensures { result ≡ writes_further (further_at entry.now) }
 {
     match further_at(entry) {
         None => false,
         Some(Further::Drain | Further::TranslationFetch | Further::CacheFlush { .. }) => false,
-        Some(Further::Crc { .. } | Further::DifCheck { .. }) => false,
-        Some(Further::CreateDelta { .. } | Further::CopyCrc { .. }) => true,
+        Some(Further::DifCheck { .. }) => false,
+        Some(Further::Checksum { op, .. }) => is_copy(op),
+        Some(Further::CreateDelta { .. }) => true,
         Some(Further::DifInsert { .. } | Further::DifStrip { .. }) => true,
         Some(Further::DifUpdate { .. }) => true,
     }

@@ -216,8 +216,13 @@ def checksums_left(text, folder):
         expect((ran.returncode, ran.stdout, right) == (0, later, True), f"{earlier} given up: {ran}")
     short = [text, "resume", "--greatest-transfer", "128", "--records", f"{folder}/some"]
     ran = subprocess.run(short, input=first + second, capture_output=True, text=True)
-    is_refused = " [37 OverTransfer 1]\n" in ran.stderr
-    expect((ran.returncode, ran.stdout, is_refused) == (1, "", True), f"a checksum is split: {ran}")
+    too_long = "error: line 2, operation 1: 256 bytes are above the greatest transfer, 128, and no operation of a list "
+    too_long += "with a checksum is split: raise --greatest-transfer [37 OverTransfer 1]\n"
+    expect((ran.returncode, ran.stdout, ran.stderr) == (1, "", too_long), f"a checksum is split: {ran}")
+    ran = subprocess.run(short, input=second + first, capture_output=True, text=True)
+    for here, there in (("line 2, operation 1", "line 1, operation 0"), ("OverTransfer 1", "OverTransfer 0")):
+        too_long = too_long.replace(here, there)
+    expect((ran.returncode, ran.stdout, ran.stderr) == (1, "", too_long), f"a checksum is split: {ran}")
 
 
 def forgone(text, folder, draw):

@@ -7,3 +7,4 @@ pub mod Jobs
 pub mod Numbers
 pub mod SettingsWords
 pub mod Laws
+pub mod Forgone

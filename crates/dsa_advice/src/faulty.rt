@@ -1,19 +1,20 @@
 //! The values that are at fault in an operation that can't be listed.
 
 use crate::notes::push_span;
+use arrayvec::ArrayVec;
 use dsa_descriptor::{FieldFault, Op, Span, op_at, record_span, u32_at, u64_at};
+use dsa_operations::checksum_at;
 use dsa_ranges::meets;
 use std::alloc::{AllocError, Global};
 
 /// The flags that a list has to have, and their names in words (`linux/idxd.h`).
 const REQUIRED: [(u32, &str); 2] = [(0x0004, "record address valid"), (0x0008, "request record")];
 
-/// The flags below bit 16 that a list may not have: check result if it is no compare, and fence if it has no barriers.
-const REFUSED: [(u32, &str); 4] = [
+/// The flags below bit 16 that no operation of a list may have, but check result of a compare.
+const REFUSED: [(u32, &str); 3] = [
     (0x0010, "interrupt"),
     (0x0040, "reserved"),
     (0x0080, "check result"),
-    (0x0001, "fence"),
 ];
 
 /// Whether an operation may have check result.
@@ -25,16 +26,17 @@ fn is_compare(op: Option<Op>) -> bool {
     }
 }
 
-/// The flags from bit 16 on that an operation of this code may have: those of a checksum.
-fn high_flags_of(code: u8) -> u32 {
-    if matches!(code, 0x10 | 0x11) {
+/// The flags from bit 16 on that an operation with these bytes may have: those of a checksum.
+fn high_flags_of(entry: &[u8; 64]) -> u32 {
+    if checksum_at(entry).is_some() {
         0x07_0000
     } else {
         0
     }
 }
 
-/// Writes the first flag that is missing, or else the first that may not be set.
+/// Writes the first flag that is missing, or else the first that may not be set: at last the fence, which is no fault
+/// of a list with barriers.
 fn push_flags(alloc: Global, text: &mut String, entry: &[u8; 64]) -> Result<(), AllocError> {
     let flags = u32_at(entry, 4) % (1 << 24);
     for (bit, name) in REQUIRED {
@@ -48,8 +50,11 @@ fn push_flags(alloc: Global, text: &mut String, entry: &[u8; 64]) -> Result<(), 
             return text.push_str(&format!(in alloc; ": 0x{bit:04x} ({name}) is set")?);
         }
     }
-    let high = flags & 0xff_0000 & !high_flags_of(entry[7]);
-    text.push_str(&format!(in alloc; ": 0x{high:06x} (reserved) is set")?)
+    let high = flags & 0xff_0000 & !high_flags_of(entry);
+    if high != 0 {
+        return text.push_str(&format!(in alloc; ": 0x{high:06x} (reserved) is set")?);
+    }
+    text.push_str(": 0x0001 (fence) is set")
 }
 
 /// Writes two ranges that share an address.
@@ -65,13 +70,26 @@ fn push_both(
     push_span(alloc, text, second)
 }
 
+/// What an operation with these bytes reads, and then what it writes beside its record.
+fn data_of(entry: &[u8; 64]) -> ArrayVec<Span, 4> {
+    let size = u32_at(entry, 32);
+    let (sources, targets) = match op_at(entry) {
+        Some(op) => (op.sources(size), op.targets(size)),
+        None => match checksum_at(entry) {
+            Some(op) => (op.sources(size), op.targets(size)),
+            None => (ArrayVec::new(), ArrayVec::new()),
+        },
+    };
+    let mut spans = ArrayVec::new();
+    spans.try_extend_from_slice(sources.as_slice()).unwrap();
+    spans.try_extend_from_slice(targets.as_slice()).unwrap();
+    spans
+}
+
 /// Writes the record and the first of the data that it meets.
 fn push_record(alloc: Global, text: &mut String, entry: &[u8; 64]) -> Result<(), AllocError> {
-    let (record, size) = (record_span(u64_at(entry, 8)), u32_at(entry, 32));
-    let Some(op) = op_at(entry) else {
-        return Ok(());
-    };
-    for span in op.sources(size).iter().chain(op.targets(size).iter()) {
+    let record = record_span(u64_at(entry, 8));
+    for span in data_of(entry).iter() {
         if meets(record, *span) {
             return push_both(alloc, text, record, *span);
         }
@@ -81,16 +99,8 @@ fn push_record(alloc: Global, text: &mut String, entry: &[u8; 64]) -> Result<(),
 
 /// Writes the first range that goes past 2^64.
 fn push_wrap(alloc: Global, text: &mut String, entry: &[u8; 64]) -> Result<(), AllocError> {
-    let (record, size) = (record_span(u64_at(entry, 8)), u32_at(entry, 32));
-    let Some(op) = op_at(entry) else {
-        return Ok(());
-    };
-    for span in op
-        .sources(size)
-        .iter()
-        .chain(op.targets(size).iter())
-        .chain([record].iter())
-    {
+    let record = record_span(u64_at(entry, 8));
+    for span in data_of(entry).iter().chain([record].iter()) {
         if span.end() > 1 << 64 {
             let (first, len) = (span.first, span.len);
             return text.push_str(&format!(in alloc; ": {len} bytes at 0x{first:x}")?);

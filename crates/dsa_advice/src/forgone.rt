@@ -1,7 +1,8 @@
 //! Warnings about pieces that read what another would have written that is given up.
 
-ghost use Rattle.std.specs.Prelude.{◌≡◌, ◌⊎◌, ℕ, [], drop, length};
-ghost use Rattle.dsa_operations.specs.Operations.{reads_of, writes_of};
+ghost use Rattle.std.specs.Prelude.{◌≡◌, ℕ, [], length};
+ghost use Rattle.dsa_operations.specs.Operations.{reads_of};
+ghost use Rattle.dsa_advice.specs.Forgone.{lost_writes};
 
 use crate::notes::Notes;
 use arrayvec::ArrayVec;
@@ -36,8 +37,7 @@ pub(crate) fn is_given_up(given_up: &[u8], piece: usize) -> bool {
 /// The data that a piece writes, and the record of a checksum, which has its value.
 fn written_by(piece: &Operation) -> Touched
     ensures reads { result.reads.items ≡ [] }
-    ensures writes { (result.writes.items ≡ writes_of piece.now)
-        ⊎ (result.writes.items ≡ drop 1 (writes_of piece.now)) }
+    ensures writes { result.writes.items ≡ lost_writes piece.now }
 {
     let mut writes = ArrayVec::new();
     match piece {

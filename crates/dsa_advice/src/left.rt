@@ -3,7 +3,6 @@
 use crate::failed::failed_notes;
 use crate::forgone::{forgone_notes, is_given_up};
 use crate::kept::joined;
-use crate::origins::count_of;
 use crate::overwritten::overwritten_notes;
 use crate::rows::warnings_of;
 use crate::unfit::unfit_notes;
@@ -11,7 +10,7 @@ use dsa_calls::PlanFault;
 use dsa_descriptor::{Descriptor, Op};
 use dsa_lines::TextList;
 use dsa_lists::{AnyPlanned, plan_read_list};
-use dsa_operations::{Operation, OperationList};
+use dsa_operations::Operation;
 use dsa_plan::Settings;
 use dsa_settings::cuts_of;
 use dsa_warnings::Concerned;
@@ -70,15 +69,6 @@ fn early_in(cuts: &[bool], completions: &[[u8; 32]]) -> Option<Early> {
     None
 }
 
-/// How many pieces operations have.
-fn piece_total(operations: &[Operation], settings: &Settings) -> usize {
-    let mut total: usize = 0;
-    for d in operations {
-        total = total.saturating_add(count_of(d, settings));
-    }
-    total
-}
-
 /// Whether a piece is a move that overwrites a part of what it reads with other bytes.
 fn overwrites_its_source(piece: &Operation) -> bool {
     piece.descriptor().is_some_and(moves_over_its_source)
@@ -135,21 +125,6 @@ fn planned_notes(
     joined(joined(unfit, source)?, joined(forgone, early)?)
 }
 
-/// The warnings about these records of a list, if it can be planned.
-fn records_notes(
-    alloc: Global,
-    operations: &OperationList,
-    settings: &Settings,
-    records: &[u8],
-    given_up: &[u8],
-) -> Result<Option<String>, AllocError> {
-    match plan_read_list(alloc, operations, settings) {
-        Ok(planned) => planned_notes(alloc, &planned, records, given_up),
-        Err(fault) if fault == PlanFault::Memory => Err(AllocError),
-        Err(_) => Ok(None),
-    }
-}
-
 /// The warning about records that submitting the groups of a plan in turn does not leave.
 fn early_note(
     alloc: Global,
@@ -167,11 +142,11 @@ fn early_note(
     Ok(Some(text))
 }
 
-/// The notes and warnings about a list and records: how long the records should be; else which operations meet the
-/// records of others; else which pieces have failed, which records can't be those of their pieces, that a piece may
-/// have overwritten its own source, which pieces read what one that is given up was to write, and that submitting the
-/// groups of its plan in turn does not leave such records. A record that pieces share does not say which of them has
-/// begun.
+/// The notes and warnings about a list and records, if the list can be planned: how long the records should be; else
+/// which operations meet the records of others; else which pieces have failed, which records can't be those of their
+/// pieces, that a piece may have overwritten its own source, which pieces read what one that is given up was to write,
+/// and that submitting the groups of its plan in turn does not leave such records. A record that pieces share does not
+/// say which of them has begun.
 pub fn resume_notes(
     alloc: Global,
     read: &TextList<'_>,
@@ -179,8 +154,13 @@ pub fn resume_notes(
     records: &[u8],
     given_up: &[u8],
 ) -> Result<Option<String>, AllocError> {
+    let planned = match plan_read_list(alloc, &read.list, settings) {
+        Ok(planned) => planned,
+        Err(fault) if fault == PlanFault::Memory => return Err(AllocError),
+        Err(_) => return Ok(None),
+    };
     let operations = read.list.entries.as_slice();
-    let (pieces, given) = (piece_total(operations, settings), records.len());
+    let (pieces, given) = (planned.operations.len(), records.len());
     let needed = pieces.saturating_mul(32);
     if given != needed {
         return Ok(Some(format!(in alloc;
@@ -197,6 +177,6 @@ pub fn resume_notes(
     let (completions, _) = records.as_chunks::<32>();
     let lines = read.lines.as_slice();
     let failed = failed_notes(alloc, lines, operations, settings, completions, given_up)?;
-    let planned = records_notes(alloc, &read.list, settings, records, given_up)?;
+    let planned = planned_notes(alloc, &planned, records, given_up)?;
     joined(failed, planned)
 }

@@ -43,7 +43,7 @@ pub use form::{Form, form_of};
 pub use jobs::explain_job_text;
 pub use judging::explain_judged;
 pub use kept::{fence_lines, fenced_in, joined};
-pub use laws::{marked_fences_are_needed, one_name_each, planned_fences_are_needed};
+pub use laws::{one_name_each, planned_fences_are_needed};
 pub use left::resume_notes;
 pub use messages::{message_of, message_with, push_indices, push_sentence};
 pub use numbers::{number_of, numbers_of, parts_of};

@@ -62,8 +62,31 @@ impl Source<'_> {
     }
 }
 
+/// Whether operations that are longer than the greatest transfer are split: none is beside a checksum.
+fn are_split(operations: &[Operation]) -> bool {
+    operations.iter().all(|operation| match operation {
+        Operation::Descriptor(_) => true,
+        Operation::Checksum(_) => false,
+    })
+}
+
+/// How many pieces operations have.
+fn piece_total(operations: &[Operation], settings: &Settings) -> usize {
+    if !are_split(operations) {
+        return operations.len();
+    }
+    let mut total: usize = 0;
+    for operation in operations {
+        total = total.saturating_add(count_of(operation, settings));
+    }
+    total
+}
+
 /// The operation that has the piece of this number.
 fn operation_of_piece(given: Given<'_>, piece: usize) -> usize {
+    if !are_split(given.operations) {
+        return piece;
+    }
     let mut before: usize = 0;
     for (index, d) in given.operations.iter().enumerate() {
         before = before.saturating_add(count_of(d, given.settings));
@@ -72,15 +95,6 @@ fn operation_of_piece(given: Given<'_>, piece: usize) -> usize {
         }
     }
     given.operations.len()
-}
-
-/// How many pieces there are.
-fn piece_total(given: Given<'_>) -> usize {
-    let mut total: usize = 0;
-    for d in given.operations {
-        total = total.saturating_add(count_of(d, given.settings));
-    }
-    total
 }
 
 /// Which operation is refused.
@@ -143,7 +157,11 @@ fn push_staging(
     d: &Operation,
 ) -> Result<(), AllocError> {
     let option = given.source.staging();
-    let area = row(given.settings.staging(), STAGED_LEN, piece_total(given));
+    let area = row(
+        given.settings.staging(),
+        STAGED_LEN,
+        piece_total(given.operations, given.settings),
+    );
     if let Some(Meeting { what, address }) = operation_meeting(
         d,
         count_of(d, given.settings),
@@ -189,15 +207,21 @@ fn push_cause(
             "a delta of {size} bytes is above the greatest transfer, {greatest}, and is not split: raise {option}"
         )?),
         SplitFault::ExpectedSplit(_) => text.push_str(&format!(in alloc;
-            "a compare that checks for a difference is not split, and {size} bytes are above the greatest transfer, {greatest}: raise {option}"
+            "a compare that checks for a difference is not split, and {size} bytes are above the greatest \
+             transfer, {greatest}: raise {option}"
         )?),
+        SplitFault::TooManyPieces if !are_split(given.operations) => {
+            text.push_str("with it there are more than 65,536 operations: plan fewer")
+        }
         SplitFault::TooManyPieces => text.push_str(&format!(in alloc;
-            "with it there are more than 65,536 pieces of up to {greatest} bytes: raise {option}, or plan fewer operations"
+            "with it there are more than 65,536 pieces of up to {greatest} bytes: raise {option}, or plan \
+             fewer operations"
         )?),
         SplitFault::StagingMeets(_) => push_staging(alloc, text, given, d),
         SplitFault::RowMeetsData(_) => push_row(alloc, text, given, d),
         SplitFault::RowWrap(_) => text.push_str(&format!(in alloc;
-            "the records of its pieces, 32 bytes each from 0x{record:x} on, would pass 2^64: move the record, or raise {option}"
+            "the records of its pieces, 32 bytes each from 0x{record:x} on, would pass 2^64: move the \
+             record, or raise {option}"
         )?),
         SplitFault::Memory => Ok(()),
     }
@@ -223,7 +247,8 @@ fn too_long(alloc: Global, given: Given<'_>, index: usize) -> Result<String, All
         .map_or(0, |operation| operation.transfer_size());
     let mut text = place_text(alloc, given.source, index)?;
     text.push_str(&format!(in alloc;
-        "{size} bytes are above the greatest transfer, {greatest}, and no operation of a list with a checksum is split: raise {option}"
+        "{size} bytes are above the greatest transfer, {greatest}, and no operation of a list with a \
+         checksum is split: raise {option}"
     )?)?;
     Ok(text)
 }

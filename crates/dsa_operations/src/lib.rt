@@ -13,3 +13,4 @@ pub use checksum::{Checksum, checksum_bytes};
 pub use checksum_op::{ChecksumOp, Seed};
 pub use laws::{checksums_are_listed, checksums_are_spelt, one_spelling};
 pub use operation::{Operation, OperationList};
+pub use reading::checksum_at;

@@ -44,7 +44,7 @@ fn seed_at(bytes: &[u8; 64]) -> Seed
 
 /// The checksum's operation that the bytes name, if they name one.
 #[tactic(auto, unfolding(crate::specs::Places::checksum_at))]
-pub(crate) fn checksum_at(bytes: &[u8; 64]) -> Option<ChecksumOp>
+pub fn checksum_at(bytes: &[u8; 64]) -> Option<ChecksumOp>
     ensures { result ≡ checksum_at bytes.now }
 {
     let (src, dst) = (u64_at(bytes, 16), u64_at(bytes, 24));

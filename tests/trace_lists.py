@@ -1,5 +1,6 @@
-"""Random lists of all eight operations, and what they leave on a device, for tests/trace_campaign.py: by tests/model.py
-where all data is there, and at pages that are absent as trace/README.md and docs/USING.md say."""
+"""Random lists of all eight operations, for tests/trace_campaign.py and tests/rooms.py, and what they leave on a
+device: by tests/model.py if all data is there, and at pages that are absent as trace/README.md and docs/USING.md
+say."""
 
 import model
 from campaign import Case

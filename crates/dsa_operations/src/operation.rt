@@ -6,7 +6,7 @@ ghost use Rattle.dsa_descriptor.specs.declared.fault.FieldFault.{FieldFault};
 use crate::checksum::Checksum;
 use crate::reading::{checksum_at, first_fault};
 use dsa_descriptor::{Descriptor, Entry, EntryList, FieldFault};
-use dsa_ranges::{Piece, Touched, Touching, touched};
+use dsa_ranges::{Piece, Touched, Touching};
 
 /// An operation that a list may have, with its completion record and its owner.
 #[derive(Clone, Copy)]
@@ -101,7 +101,7 @@ impl Touching for Operation {
     #[inline(always)]
     fn touched_spans(&self) -> Touched {
         match self {
-            Operation::Descriptor(descriptor) => touched(descriptor),
+            Operation::Descriptor(descriptor) => descriptor.touched_spans(),
             Operation::Checksum(checksum) => checksum.touched(),
         }
     }

@@ -5,9 +5,9 @@ ghost use Rattle.dsa_descriptor.specs.declared.span.Span.{Span};
 ghost use Rattle.dsa_descriptor.specs.Descriptors.{fields};
 ghost use Rattle.dsa_ranges.specs.Pieces.{ConflictAsTouched, DescriptorConflictAt, reads_of, writes_of};
 
-use crate::conflict::touched;
 use crate::span::Touched;
-use dsa_descriptor::{Descriptor, Entry};
+use arrayvec::ArrayVec;
+use dsa_descriptor::{Descriptor, Entry, record_span};
 
 /// Something that reads and writes memory.
 pub trait Touching {
@@ -49,9 +49,13 @@ impl Touching for Descriptor {
 
     fn conflict_as_touched() {}
 
-    #[inline(always)]
     fn touched_spans(&self) -> Touched {
-        touched(self)
+        let (sources, targets) = (self.op.sources(self.size), self.op.targets(self.size));
+        let (mut reads, mut writes) = (ArrayVec::new(), ArrayVec::new());
+        reads.try_extend_from_slice(sources.as_slice()).unwrap();
+        writes.push(record_span(self.record_at));
+        writes.try_extend_from_slice(targets.as_slice()).unwrap();
+        Touched { reads, writes }
     }
 }
 

@@ -17,7 +17,8 @@ use Rattle.dsa_audit.specs.Audits.{HasFence, IsCorrected, IsHeld, IsNeeded, IsRe
 use Rattle.dsa_audit.specs.Laws.{IsAudit}
 use Rattle.dsa_audit.specs.Members.{PossibleConflict}
 use Rattle.dsa_audit.specs.Repeats.{OrderMatters}
-use Rattle.dsa_audit.specs.Steps.{AreLasts, IsLastFrom, IsLastOf, IsLeftWithin, IsUnlisted, NoneFrom}
+use Rattle.dsa_conflicts.specs.Last.{IsLastOf}
+use Rattle.dsa_audit.specs.Steps.{AreLasts, IsLastFrom, IsLeftWithin, IsUnlisted, NoneFrom}
 use Rattle.dsa_audit.proofs.Flags.{fence_within}
 use Rattle.dsa_audit.proofs.Guards.{IsLastGiven, first_after, given_before, given_here}
 

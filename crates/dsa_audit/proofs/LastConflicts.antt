@@ -14,7 +14,8 @@ use Rattle.dsa_audit.specs.declared.member.Member.{Member}
 use Rattle.dsa_audit.specs.declared.member.Member.TheVariants.{Known, Unknown}
 use Rattle.dsa_audit.specs.declared.member.Unseen.{Unseen}
 use Rattle.dsa_audit.specs.Members.{AreKnownToConflict, CanConflict, IsUnknownAt, KnownConflict, PossibleConflict, reads_of, writes_of}
-use Rattle.dsa_audit.specs.Steps.{AreLasts, AreLooks, IsLastFrom, IsLastOf, NoneFrom}
+use Rattle.dsa_conflicts.specs.Last.{IsLastOf}
+use Rattle.dsa_audit.specs.Steps.{AreLasts, AreLooks, IsLastFrom, NoneFrom}
 
 -- ---- one more last conflict
 

@@ -9,7 +9,8 @@ use Rattle.dsa_settings.specs.Plan.{Group}
 use Rattle.dsa_audit.specs.declared.needless.FenceUse.{FenceUse}
 use Rattle.dsa_audit.specs.declared.needless.FenceUse.TheVariants as fence_use
 use Rattle.dsa_audit.specs.Audits.{IsReduced, IsSeparated, IsSpared, UseHolds}
-use Rattle.dsa_audit.specs.Steps.{AreLasts, IsLastOf, IsOuterConflict}
+use Rattle.dsa_conflicts.specs.Last.{IsLastOf}
+use Rattle.dsa_audit.specs.Steps.{AreLasts, IsOuterConflict}
 use Rattle.dsa_audit.proofs.Guards.{IsLastGiven, first_after}
 
 -- the last conflict of all, as the last before an epoch

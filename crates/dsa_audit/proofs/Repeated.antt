@@ -11,7 +11,7 @@ use Rattle.dsa_audit.specs.declared.member.Member.{Member}
 use Rattle.dsa_audit.specs.declared.member.Member.TheVariants.{Known, Unknown}
 use Rattle.dsa_audit.specs.declared.repeats.Action.{Action}
 use Rattle.dsa_audit.specs.Members.{AreKnownToConflict, KnownConflict, reads_of, writes_of}
-use Rattle.dsa_audit.specs.Repeats.{IsRepeated, IsLastKnown, OrderMatters, RepeatsLast, is_whole}
+use Rattle.dsa_audit.specs.Repeats.{IsRepeated, IsLastKnown, OrderMatters, RepeatsLast, may_repeat_at}
 
 -- what conflicts with one conflicts with another that reads and writes the same
 conflict_moves : (m : Member) (t u : Touched) → t.reads.items ≡ u.reads.items → t.writes.items ≡ u.writes.items → AreKnownToConflict m (Known t) → AreKnownToConflict m (Known u)
@@ -44,7 +44,7 @@ repeat_of acts ms i l k r q =
       there = q.there;
       here = r.here;
       action = q.action ∙ r.action;
-      whole = q.whole;
+      may_repeat = q.may_repeat;
       reads = q.reads ∙ reads ∙ r.reads;
       writes = q.writes ∙ writes ∙ r.writes;
       apart = λ a read wrote. q.apart a read (subst (λ x. InSome x a) (sym (writes ∙ r.writes)) wrote);
@@ -61,7 +61,7 @@ repeated_by acts ms i l k r q =
       there = q.there;
       here = r.there;
       action = q.action ∙ sym r.action;
-      whole = q.whole;
+      may_repeat = q.may_repeat;
       reads = q.reads ∙ reads ∙ sym r.reads;
       writes = q.writes ∙ writes ∙ sym r.writes;
       apart = λ a read wrote. q.apart a read (subst (λ x. InSome x a) (r.writes ∙ sym writes) wrote);
@@ -117,10 +117,10 @@ tested acts ms i j t u at_i at_j r =
     )
 
 pub repeated : (acts : List Action) (ms : List Member) (i j : ℕ) (t u : Touched) → slice_get ms i ≡ Some (Known t) → slice_get ms j ≡ Some (Known u)
-    → slice_get acts i ≡ slice_get acts j → is_whole (slice_get acts i) ≡ true → t.reads.items ≡ u.reads.items → t.writes.items ≡ u.writes.items
+    → slice_get acts i ≡ slice_get acts j → may_repeat_at (slice_get acts i) ≡ true → t.reads.items ≡ u.reads.items → t.writes.items ≡ u.writes.items
     → (((address : ℕ) × InSome t.reads.items address × InSome u.writes.items address) → ⊥) → IsRepeated acts ms i j
-repeated acts ms i j t u at_i at_j action whole reads writes apart =
-    record { first = t; second = u; there = at_i; here = at_j; action = action; whole = whole; reads = reads; writes = writes; apart = λ a read wrote. apart (a, read, wrote) }
+repeated acts ms i j t u at_i at_j action may reads writes apart =
+    record { first = t; second = u; there = at_i; here = at_j; action = action; may_repeat = may; reads = reads; writes = writes; apart = λ a read wrote. apart (a, read, wrote) }
 
 and_true : (x y : Bool) → (x && y) ≡ true → (x ≡ true) × (y ≡ true)
 and_true true y h = (refl, h)

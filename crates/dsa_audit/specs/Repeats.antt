@@ -9,20 +9,20 @@ use Rattle.dsa_audit.specs.declared.member.Member.TheVariants.{Known}
 use Rattle.dsa_audit.specs.declared.repeats.Action.{Action}
 use Rattle.dsa_audit.specs.Members.{KnownConflict}
 
--- there is a member, and its operation is one of a plan's
-abbrev pub is_whole : Option Action → Bool
-is_whole None = false
-is_whole (Some action) = action.is_listed
+-- there is a member, and its operation is one of the six of a descriptor
+abbrev pub may_repeat_at : Option Action → Bool
+may_repeat_at None = false
+may_repeat_at (Some action) = action.may_repeat
 
--- the members at these two places do the same: they say the same of an operation of a plan, and neither reads what the
--- other writes. Each leaves what the other leaves
+-- the members at these two places do the same: they say the same of one of the six operations of a descriptor, and neither
+-- reads what the other writes. Each leaves what the other leaves
 pub record IsRepeated (actions : List Action) (ms : List Member) (i j : ℕ) : Type 0 where
   pub first : Touched
   pub second : Touched
   pub there : slice_get ms i ≡ Some (Known first)
   pub here : slice_get ms j ≡ Some (Known second)
   pub action : slice_get actions i ≡ slice_get actions j
-  pub whole : IsTrue (is_whole (slice_get actions i))
+  pub may_repeat : IsTrue (may_repeat_at (slice_get actions i))
   pub reads : first.reads.items ≡ second.reads.items
   pub writes : first.writes.items ≡ second.writes.items
   pub apart : (address : ℕ) → InSome first.reads.items address → ¬ InSome second.writes.items address

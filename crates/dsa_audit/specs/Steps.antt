@@ -16,10 +16,6 @@ abbrev pub AreLasts : (ℕ → ℕ → Type 0) → List (Option ℕ) → Type 0
 AreLasts C lasts =
     (b : ℕ) (last : Option ℕ) → slice_get lasts b ≡ Some last → IsGreatest (λ a. (a < b) × C a b) last
 
--- the list says that member a is the last that conflicts with b
-abbrev pub IsLastOf : List (Option ℕ) → ℕ → ℕ → Type 0
-IsLastOf lasts a b = slice_get lasts b ≡ Some (Some a)
-
 -- of each that was looked for, the last member before `before` that is known to conflict with `later`
 abbrev pub AreLooks : List Member → List Look → Type 0
 AreLooks ms looks =

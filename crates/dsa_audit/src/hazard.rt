@@ -4,9 +4,8 @@ ghost use Rattle.std.specs.Prelude.{◌≡◌, ◌<◌, length, slice_get, Match
 ghost use Rattle.dsa_audit.specs.Members.{AreHazardsBetween, KnownConflict, IsHazardBetween, reads_at, writes_at};
 
 use crate::member::Member;
-use crate::repeats::some_meet;
 use dsa_descriptor::Span;
-use dsa_ranges::{Hazard, find_hazard};
+use dsa_ranges::{Hazard, find_hazard, some_meet};
 
 /// Where two members conflict and why, by what is known of both.
 pub fn hazard_between(members: &[Member], earlier: usize, later: usize) -> Option<Hazard>

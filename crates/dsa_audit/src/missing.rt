@@ -2,7 +2,8 @@
 
 ghost use Rattle.std.specs.Prelude.{◌≡◌, ◌<◌, ℕ, length, IfOk};
 ghost use Rattle.dsa_audit.specs.Audits.{IsCorrected};
-ghost use Rattle.dsa_audit.specs.Steps.{IsLastOf, IsNextPlace, has_fence, epoch_after};
+ghost use Rattle.dsa_conflicts.specs.Last.{IsLastOf};
+ghost use Rattle.dsa_audit.specs.Steps.{IsNextPlace, has_fence, epoch_after};
 
 use std::alloc::{AllocError, Global};
 

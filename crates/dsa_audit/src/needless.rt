@@ -2,7 +2,8 @@
 
 ghost use Rattle.std.specs.Prelude.{◌≡◌, ◌<◌, ◌≤◌, ℕ, length, IfOk, MatchOption};
 ghost use Rattle.dsa_audit.specs.Audits.{HasFence, IsReduced};
-ghost use Rattle.dsa_audit.specs.Steps.{IsLastOf, IsLastFrom, IsNextUse, IsIdleUse, IsSpareUse, NoneAcross, NoneFrom, IsAcross, NoneSet, IsFirstSet, IsNextFence, IsUnfencedUpTo, is_kept, epoch_kept, given_after};
+ghost use Rattle.dsa_conflicts.specs.Last.{IsLastOf};
+ghost use Rattle.dsa_audit.specs.Steps.{IsLastFrom, IsNextUse, IsIdleUse, IsSpareUse, NoneAcross, NoneFrom, IsAcross, NoneSet, IsFirstSet, IsNextFence, IsUnfencedUpTo, is_kept, epoch_kept, given_after};
 
 use std::alloc::{AllocError, Global};
 

@@ -2,21 +2,20 @@
 
 ghost use Rattle.std.specs.Prelude.{◌≡◌, ◌↔◌, ◌<◌, IfOk, IsTrue, length, slice_get};
 ghost use Rattle.dsa_conflicts.specs.Access.{IsGreatest};
-ghost use Rattle.dsa_audit.specs.Members.{KnownConflict, ShareAddress};
-ghost use Rattle.dsa_audit.specs.Repeats.{AreRepeats, IsLastKnown, IsRepeated, OrderMatters, RepeatsLast, is_whole};
+ghost use Rattle.dsa_audit.specs.Members.{KnownConflict};
+ghost use Rattle.dsa_audit.specs.Repeats.{AreRepeats, IsLastKnown, IsRepeated, OrderMatters, RepeatsLast, may_repeat_at};
 ghost use Rattle.dsa_audit.specs.Steps.{AreLasts};
 
 use crate::member::{Member, are_known_to_conflict};
 use crate::relation::Relation;
-use dsa_descriptor::Span;
-use dsa_ranges::meets_some;
+use dsa_ranges::some_meet;
 use std::alloc::{AllocError, Global};
 
 /// What a member says of what it does.
 #[derive(Clone, Copy, PartialEq, Eq)]
 pub struct Action {
-    /// Whether its operation is one of a plan's: no other is reported as a repeat.
-    pub is_listed: bool,
+    /// Whether its operation is one of the six of a descriptor: no other is reported as a repeat.
+    pub may_repeat: bool,
     /// All that two members which do the same have in common, as numbers of 8 bytes.
     pub words: [u64; 7],
 }
@@ -28,18 +27,6 @@ fn action_at(actions: &[Action], k: usize) -> Option<Action>
     actions.get(k).copied()
 }
 
-/// Whether some address is in one of each.
-pub(crate) fn some_meet(first: &[Span], second: &[Span]) -> bool
-    ensures { IsTrue result ↔ ShareAddress first.now second.now }
-{
-    for span in first {
-        if meets_some(*span, second) {
-            return true;
-        }
-    }
-    false
-}
-
 /// Whether the members of these numbers do the same, or neither is there.
 fn act_alike(actions: &[Action], first: usize, second: usize) -> bool
     ensures { IsTrue result ↔ (slice_get actions.now first ≡ slice_get actions.now second) }
@@ -47,12 +34,12 @@ fn act_alike(actions: &[Action], first: usize, second: usize) -> bool
     action_at(actions, first) == action_at(actions, second)
 }
 
-/// Whether the operation of this member is one of a plan's.
-fn is_whole_at(actions: &[Action], k: usize) -> bool
-    ensures { result ≡ is_whole (slice_get actions.now k) }
+/// Whether the operation of this member may be reported as a repeat.
+fn may_repeat_at(actions: &[Action], k: usize) -> bool
+    ensures { result ≡ may_repeat_at (slice_get actions.now k) }
 {
     match action_at(actions, k) {
-        Some(action) => action.is_listed,
+        Some(action) => action.may_repeat,
         None => false,
     }
 }
@@ -74,7 +61,7 @@ pub(crate) fn is_repeated(
     if !act_alike(actions, earlier, later) {
         return false;
     }
-    if !is_whole_at(actions, earlier) {
+    if !may_repeat_at(actions, earlier) {
         return false;
     }
     if first.reads.as_slice() != second.reads.as_slice() {

@@ -4,8 +4,7 @@ ghost use Rattle.std.specs.Prelude.{map, IsTrue};
 ghost use Rattle.dsa_descriptor.specs.Descriptors.{fields};
 ghost use Rattle.dsa_conflicts.specs.Spread.{NoneConflict};
 
-use crate::spread::data_at;
-use dsa_descriptor::{Descriptor, RECORD_LEN};
+use dsa_descriptor::{Descriptor, RECORD_LEN, data_at};
 
 /// Whether the data of the pieces rises, and so do their records, on one side of all data: true only if no two pieces
 /// conflict. A piece's data lies after that of all earlier pieces, or its two ranges go on in two areas: the lower one

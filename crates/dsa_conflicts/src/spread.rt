@@ -1,17 +1,16 @@
 //! Last conflicts of a few pieces, without a sort: by units of addresses it is known which pieces to compare.
 
-ghost use Rattle.std.specs.Prelude.{◌≡◌, ◌≢◌, ℕ, ◌+◌, ◌-◌, ◌<◌, ◌≤◌, ◌⊎◌, ◌↔◌, length, map, slice_index, false, IsTrue, IfSome};
+ghost use Rattle.std.specs.Prelude.{◌≡◌, ◌≢◌, ℕ, ◌+◌, ◌-◌, ◌<◌, ◌≤◌, ◌⊎◌, ◌↔◌, length, map, slice_index, false, IsTrue};
 ghost use Rattle.dsa_descriptor.specs.Descriptors.{fields};
-ghost use Rattle.dsa_descriptor.specs.Data.{sources, targets};
 ghost use Rattle.dsa_descriptor.specs.Pieces.{most_pieces};
-ghost use Rattle.dsa_descriptor.specs.Spans.{InSome, InSpan, Meets, span};
+ghost use Rattle.dsa_descriptor.specs.Spans.{Meets, span};
 ghost use Rattle.dsa_ranges.specs.Ranges.{Conflicts};
 ghost use Rattle.dsa_conflicts.specs.Last.{HasLasts, IsBack};
 ghost use Rattle.dsa_conflicts.specs.Overlaps.{last_at};
 ghost use Rattle.dsa_conflicts.specs.Spread.{DataConflict, DataConflictAt, IsNoted, key_of};
 
-use dsa_descriptor::{Descriptor, Op};
-use dsa_ranges::{in_conflict, touched};
+use dsa_descriptor::{Descriptor, Op, data_at};
+use dsa_ranges::{Touching, in_conflict};
 
 /// How many places there are for the stamps of units.
 const PLACES: usize = 2048;
@@ -74,22 +73,6 @@ fn mark_all(stamps: &mut [u8; PLACES], a: u64, b: u64, c: u64, d: u64, stamp: u8
     mark_ends(stamps, c, d, stamp).max(before)
 }
 
-/// Two addresses where data of the operation begins, if it has all of its data there. Other operations are rare.
-pub(crate) fn data_at(op: &Op) -> Option<(u64, u64)>
-    ensures { IfSome result (λ at. (size x : ℕ) →
-        InSome (sources op.now size) x ⊎ InSome (targets op.now size) x →
-        InSpan (span at.0 size) x ⊎ InSpan (span at.1 size) x) }
-{
-    match *op {
-        Op::Move { src, dst } => Some((src, dst)),
-        Op::Fill { dst, .. } => Some((dst, dst)),
-        Op::Compare { src, src2, .. } => Some((src, src2)),
-        Op::ComparePattern { src, .. } => Some((src, src)),
-        Op::ApplyDelta { .. } => None,
-        Op::Dualcast { .. } => None,
-    }
-}
-
 /// The logarithm of a unit that is no shorter than any piece.
 fn unit_of(pieces: &[Descriptor]) -> u32
     ensures { result < 64 }
@@ -145,7 +128,7 @@ fn any_conflict(first: &Descriptor, second: &Descriptor) -> bool
     ensures known { IsTrue result → Conflicts (fields first.now) (fields second.now) }
     ensures none { result ≡ false → DataConflict (fields first.now) (fields second.now) → ⊥ }
 {
-    in_conflict(&touched(first), &touched(second))
+    in_conflict(&first.touched_spans(), &second.touched_spans())
 }
 
 /// Whether the two are known to conflict: true if their data does. Most are moves.

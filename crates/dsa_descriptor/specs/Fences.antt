@@ -75,13 +75,13 @@ abbrev pub DescriptorsAreFencedAlike : Type 0
 DescriptorsAreFencedAlike =
     (d : Descriptor) (fence : Bool) → fenced fence (spelling (fields d)) ≡ spelling (with_fence fence (fields d))
 
--- ---- fences that are barriers, or are none
+-- ---- a list in which fences are barriers, or faults
 
 -- the bytes as they are read: if fences are barriers, without these
 abbrev pub seen_list : Bool → List ℕ → List ℕ
 seen_list as_barriers bytes = if as_barriers then unfenced_list bytes else bytes
 
--- and the barriers
+-- the barriers, if fences are barriers; else none
 abbrev pub seen_barriers : Bool → List ℕ → List Bool
 seen_barriers as_barriers bytes = if as_barriers then barriers_of bytes else []
 

@@ -1,9 +1,10 @@
 -- What operations are made of: copies, fills, the entries of a delta, what is found, and what a completion record holds.
-use Rattle.std.specs.Prelude.{ℕ, ◌+◌, ◌-◌, ◌*◌, ◌/◌, ◌%◌, ◌==◌, Bool, not, ◌&&◌, nat_le, nat_lt, Option, Some, None, is_some, unwrap_or, bit_and, List, [], ◌∷◌, slice_index, if◌then◌else◌}
+use Rattle.std.specs.Prelude.{ℕ, ◌+◌, ◌-◌, ◌*◌, ◌/◌, ◌%◌, ◌==◌, Bool, not, ◌&&◌, nat_le, nat_lt, Option, Some, None, is_some, unwrap_or, List, [], ◌∷◌, slice_index, if◌then◌else◌}
 use Rattle.std.specs.Option.{option_or}
 use Rattle.std.specs.Int.{w64, to_le_bytes}
 use Rattle.std.specs.List.{range_with_len}
 use Rattle.dsa_descriptor.specs.declared.record.Record.{Record}
+use Rattle.dsa_descriptor.specs.Profile.{checks_result}
 use Rattle.dsa_image.specs.declared.partial.Partial.{Partial}
 use Rattle.dsa_image.specs.Memory.{Memory, byte_at, is_between}
 
@@ -114,10 +115,6 @@ nothing_found = record { difference = None; fault = None }
 -- a status, and zeros
 abbrev pub plain_record : ℕ → Record
 plain_record status = record { status = status; result = 0; bytes_completed = 0 }
-
--- the flag 0x0080, check result, is set (linux/idxd.h)
-abbrev pub checks_result : ℕ → Bool
-checks_result flags = bit_and flags 0x80 == 0x80
 
 -- 1 if a difference was found (specification 341204, compare)
 abbrev pub compare_result : Option ℕ → ℕ

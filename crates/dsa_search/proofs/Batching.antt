@@ -11,7 +11,8 @@ use Rattle.dsa_plan.specs.Chain.{Pairs, GoForward, LeadsTo, HasCountBelow, IsPai
 use Rattle.dsa_plan.proofs.Fences.{price_of-batch}
 use Rattle.dsa_search.specs.Entries.{IsChainCost, MakesEntry, AreEntries, IsReadPlan}
 use Rattle.dsa_search.specs.Filled.{IsFilled}
-use Rattle.dsa_search.specs.Lasts.{IsLastOf, IsFoundFrom}
+use Rattle.dsa_conflicts.specs.Last.{IsLastOf}
+use Rattle.dsa_search.specs.Lasts.{IsFoundFrom}
 use Rattle.dsa_search.specs.OneBatch.{IsBestBatch, AreBatchCosts}
 use Rattle.dsa_search.proofs.Grouping.{IsPlanFrom, plan_more, plan_whole, chain_price, group_alone}
 

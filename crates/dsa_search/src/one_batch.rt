@@ -2,7 +2,7 @@
 
 ghost use Rattle.std.specs.Prelude.{◌≡◌, ℕ, ◌+◌, ◌-◌, ◌<◌, ◌≤◌, List, [], ◌∷◌, replicate, false, length, slice_index, IsTrue, IfOk};
 ghost use Rattle.dsa_settings.specs.Settings.{tariff_of, greatest_price};
-ghost use Rattle.dsa_search.specs.Lasts.{IsLastOf};
+ghost use Rattle.dsa_conflicts.specs.Last.{IsLastOf};
 ghost use Rattle.dsa_plan.specs.Chain.{GoForward};
 ghost use Rattle.dsa_search.specs.Entries.{IsReadPlan};
 ghost use Rattle.dsa_search.specs.OneBatch.{IsBestBatch, AreBatchCosts, AreNested, HasCheapFences, AreJoinedCosts, IsBestJoined};

@@ -3,7 +3,7 @@
 use Rattle.std.specs.Prelude.{ℕ, ◌+◌, ◌^◌, ◌<◌, ◌≤◌, ◌≡◌, ⊤, true, Bool}
 use Rattle.dsa_descriptor.specs.declared.op.Op.{Op}
 use Rattle.dsa_descriptor.specs.declared.op.Op.TheVariants.{Move, Fill, Compare, ComparePattern, ApplyDelta, Dualcast}
-use Rattle.dsa_image.specs.Effects.{checks_result}
+use Rattle.dsa_descriptor.specs.Profile.{checks_result}
 use Rattle.dsa_image.specs.Lines.{runs_down}
 
 -- the operation with all its data addresses moved up

@@ -1,10 +1,8 @@
 //! What differs by operation: how its data addresses move up, in which order its pieces are done, and which may be
 //! split.
 
-ghost use Rattle.std.specs.Prelude.{◌≡◌, ◌↔◌, ◌≤◌, ◌⊎◌, ℕ, true, IfSome, IsTrue};
-ghost use Rattle.dsa_descriptor.specs.Data.{sources, targets};
-ghost use Rattle.dsa_descriptor.specs.Spans.{InSome, InSpan, span};
-ghost use Rattle.dsa_image.specs.Effects.{checks_result};
+ghost use Rattle.std.specs.Prelude.{◌≡◌, ◌↔◌, ◌≤◌, true, IsTrue};
+ghost use Rattle.dsa_descriptor.specs.Profile.{checks_result};
 ghost use Rattle.dsa_image.specs.Lines.{runs_down};
 ghost use Rattle.dsa_splitter.specs.Operations.{
   moved_up,
@@ -62,22 +60,6 @@ pub(crate) fn moved_up(op: &Op, by: u64) -> Op
             dst: dst + by,
             dst2: dst2 + by,
         },
-    }
-}
-
-/// Two addresses where data of the operation begins, if all of its data begins there and is as long as the operation.
-pub(crate) fn data_at(op: &Op) -> Option<(u64, u64)>
-    ensures all { IfSome result (λ at. (size x : ℕ) →
-        InSome (sources op.now size) x ⊎ InSome (targets op.now size) x →
-        InSpan (span at.0 size) x ⊎ InSpan (span at.1 size) x) }
-{
-    match *op {
-        Op::Move { src, dst } => Some((src, dst)),
-        Op::Fill { dst, .. } => Some((dst, dst)),
-        Op::Compare { src, src2, .. } => Some((src, src2)),
-        Op::ComparePattern { src, .. } => Some((src, src)),
-        Op::ApplyDelta { .. } => None,
-        Op::Dualcast { .. } => None,
     }
 }
 

@@ -5,8 +5,7 @@ ghost use Rattle.dsa_descriptor.specs.Descriptors.{fields};
 ghost use Rattle.dsa_descriptor.specs.Spans.{InSpan};
 ghost use Rattle.dsa_splitter.specs.Rules.{AreWhole, IsClear, IsSplit};
 
-use crate::operations::data_at;
-use dsa_descriptor::{Descriptor, MOST_PIECES, RECORD_LEN, Span};
+use dsa_descriptor::{Descriptor, MOST_PIECES, RECORD_LEN, Span, data_at};
 use dsa_settings::{STAGED_LEN, Settings};
 
 /// Whether the area is known to have none of the addresses from `low` to below `high`.

@@ -2,7 +2,7 @@
 use Rattle.std.specs.Prelude.{ℕ, ◌-◌, ◌&&◌, nat_lt, Bool, false, Option, Some, None, if◌then◌else◌}
 use Rattle.dsa_descriptor.specs.declared.op.Op.{Op}
 use Rattle.dsa_descriptor.specs.declared.op.Op.TheVariants.{Move, Fill, Compare, ComparePattern, ApplyDelta, Dualcast}
-use Rattle.dsa_image.specs.Basics.{checks_result}
+use Rattle.dsa_descriptor.specs.Profile.{checks_result}
 use Rattle.dsa_warnings.specs.declared.concerns.Concern.{Concern}
 use Rattle.dsa_warnings.specs.declared.concerns.Concern.TheVariants.{Overlap, Unchecked, Unguarded}
 

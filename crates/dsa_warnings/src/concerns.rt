@@ -2,7 +2,7 @@
 //! move whose source and destination overlap.
 
 ghost use Rattle.std.specs.Prelude.{◌≡◌};
-ghost use Rattle.dsa_image.specs.Basics.{checks_result};
+ghost use Rattle.dsa_descriptor.specs.Profile.{checks_result};
 ghost use Rattle.dsa_warnings.specs.Concerns.{check_concern, compare_concern, overlap_concern, overlaps};
 
 use dsa_descriptor::{Descriptor, FlagWord, Op};

@@ -1,7 +1,8 @@
 use Rattle.std.proofs.Common.{◌≡◌, length, ap, sym, subst, arith}
 use Rattle.dsa_audit.specs.Repeats.{OrderMatters}
 use Rattle.dsa_audit.specs.Audits.{IsCorrected}
-use Rattle.dsa_audit.specs.Steps.{AreLasts, IsLastOf, IsLeftWithin}
+use Rattle.dsa_conflicts.specs.Last.{IsLastOf}
+use Rattle.dsa_audit.specs.Steps.{AreLasts, IsLeftWithin}
 use Rattle.dsa_audit.proofs.Accepting.{corrected_of, last_before, left_of}
 use Rattle.dsa_audit.proofs.audit.audit_fences.Goals as goal
 

@@ -2,7 +2,7 @@ use Rattle.std.proofs.lemmas.Result.{IfOk-weaker}
 use Rattle.std.proofs.Common.{[]}
 use Rattle.dsa_audit.specs.Audits.{IsReduced}
 use Rattle.dsa_audit.specs.Members.{PossibleConflict}
-use Rattle.dsa_audit.specs.Steps.{IsLastOf}
+use Rattle.dsa_conflicts.specs.Last.{IsLastOf}
 use Rattle.dsa_audit.proofs.OuterLasts.{reduced_of}
 use Rattle.dsa_audit.proofs.audit.needed_fences.Goals as goal
 

@@ -1,5 +1,5 @@
 use Rattle.std.proofs.Common.{arith}
-use Rattle.dsa_audit.specs.Steps.{IsLastOf}
+use Rattle.dsa_conflicts.specs.Last.{IsLastOf}
 use Rattle.dsa_audit.proofs.Scanned.{scanned_next, scanned_all}
 use Rattle.dsa_audit.proofs.missing.add_missing.Goals as goal
 

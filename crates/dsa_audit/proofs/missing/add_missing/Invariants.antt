@@ -1,4 +1,4 @@
-use Rattle.dsa_audit.specs.Steps.{IsLastOf}
+use Rattle.dsa_conflicts.specs.Last.{IsLastOf}
 use Rattle.dsa_audit.proofs.Scanned.{Scanned}
 use Rattle.dsa_audit.proofs.missing.add_missing.Given as goal
 

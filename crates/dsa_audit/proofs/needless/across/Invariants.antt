@@ -1,4 +1,5 @@
-use Rattle.dsa_audit.specs.Steps.{IsLastOf, NoneAcross}
+use Rattle.dsa_conflicts.specs.Last.{IsLastOf}
+use Rattle.dsa_audit.specs.Steps.{NoneAcross}
 use Rattle.dsa_audit.proofs.needless.across.Given as goal
 
 abbrev pub invariant-loop-later : goal.invariant-loop-later

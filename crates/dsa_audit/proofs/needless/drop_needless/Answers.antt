@@ -1,5 +1,5 @@
 use Rattle.std.proofs.Common.{arith}
-use Rattle.dsa_audit.specs.Steps.{IsLastOf}
+use Rattle.dsa_conflicts.specs.Last.{IsLastOf}
 use Rattle.dsa_audit.proofs.Reducing.{reducing_next, reducing_all}
 use Rattle.dsa_audit.proofs.needless.drop_needless.Goals as goal
 

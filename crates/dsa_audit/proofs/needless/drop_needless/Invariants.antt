@@ -1,4 +1,4 @@
-use Rattle.dsa_audit.specs.Steps.{IsLastOf}
+use Rattle.dsa_conflicts.specs.Last.{IsLastOf}
 use Rattle.dsa_audit.proofs.Reducing.{Reducing}
 use Rattle.dsa_audit.proofs.needless.drop_needless.Given as goal
 

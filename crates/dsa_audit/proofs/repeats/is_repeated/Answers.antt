@@ -31,10 +31,10 @@ returns-then-not-act_alike c = (
   λ r. let same = c.act_alike.ensures.1 r.action in absurd cc,
 )
 
-pub returns-then-not-is_whole_at : goal.returns-then-not-is_whole_at
-returns-then-not-is_whole_at c = (
+pub returns-then-not-may_repeat_at : goal.returns-then-not-may_repeat_at
+returns-then-not-may_repeat_at c = (
   λ (h : false ≡ true). absurd cc,
-  λ r. let whole = c.is_whole_at.ensures ∙ r.whole in absurd cc,
+  λ r. let may = c.may_repeat_at.ensures ∙ r.may_repeat in absurd cc,
 )
 
 pub returns : goal.returns
@@ -45,7 +45,7 @@ returns c =
     let writes = sym c.as_slice-3.ensures.value ∙ (slice_eq-Decides span_decides c.as_slice-3.result.now c.as_slice-4.result.now _ refl).0 (not_false _ (sym c.if-ne-2.ensures)) ∙ c.as_slice-4.ensures.value in (
       λ unmet.
           repeated c.args.actions.now c.args.members.now c.args.earlier c.args.later c.in-Known-Known.first c.in-Known-Known.second at_i at_j
-          (c.act_alike.ensures.0 c.if-not-act_alike.false) (sym c.is_whole_at.ensures ∙ c.if-not-is_whole_at.false) reads writes
+          (c.act_alike.ensures.0 c.if-not-act_alike.false) (sym c.may_repeat_at.ensures ∙ c.if-not-may_repeat_at.false) reads writes
           (λ met. not_true _ unmet (c.some_meet.ensures.1 (meet_moves _ _ c.deref.result.now c.deref-2.result.now (sym c.deref.ensures.0) (sym c.deref-2.ensures.0) met))),
       λ r.
           let t = tested c.args.actions.now c.args.members.now c.args.earlier c.args.later c.in-Known-Known.first c.in-Known-Known.second at_i at_j r in

@@ -1,5 +1,5 @@
 use Rattle.std.proofs.Common.{ℕ, ◌<◌}
-use Rattle.dsa_search.specs.Lasts.{IsLastOf}
+use Rattle.dsa_conflicts.specs.Last.{IsLastOf}
 use Rattle.dsa_search.proofs.one_batch.none_last.Given as goal
 
 -- none of the pieces so far has a last conflict

@@ -1,6 +1,6 @@
 use Rattle.std.proofs.Common.{length}
 use Rattle.dsa_plan.proofs.Groups.{forward_from_pairs}
-use Rattle.dsa_search.specs.Lasts.{IsLastOf}
+use Rattle.dsa_conflicts.specs.Last.{IsLastOf}
 use Rattle.dsa_search.proofs.planning.found_from.Goals as goal
 
 pub costs_of-requires-clause-forward : goal.costs_of-requires-clause-forward

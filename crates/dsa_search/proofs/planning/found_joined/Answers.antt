@@ -2,7 +2,7 @@ use Rattle.std.proofs.Common.{length, arith}
 use Rattle.dsa_settings.specs.Settings.{tariff_of}
 use Rattle.dsa_plan.specs.Chain.{GoForward}
 use Rattle.dsa_plan.proofs.Groups.{forward_from_pairs}
-use Rattle.dsa_search.specs.Lasts.{IsLastOf}
+use Rattle.dsa_conflicts.specs.Last.{IsLastOf}
 use Rattle.dsa_search.specs.OneBatch.{AreNested, AreJoinedCosts}
 use Rattle.dsa_search.specs.Entries.{IsReadPlan}
 use Rattle.dsa_search.proofs.Joining.{joined_filled, pairs_are_nested}

@@ -13,7 +13,7 @@ loop-d-preserved c =
     let n = c.loop-d.d-index in
     let here : slice_get ds n ≡ Some d = slice_get_read ds (length ds) n d refl (omega (arith, c.loop-d-test.true)) c.d-item.is in
     let at : slice_get (map fields ds) n ≡ Some (fields d) = fields_at ds n d (omega (arith, c.loop-d-test.true)) c.d-item.is in
-    plain_more ds n d here at c.in-Some.p c.in-Some.q (λ x h. c.in-Some.ensures.all d.size x h)
+    plain_more ds n d here at c.in-Some.p c.in-Some.q (λ x h. c.in-Some.ensures d.size x h)
     c.loop-d.longest c.loop-d.low c.loop-d.high c.loop-d.from c.loop-d.to
     c.max-longest.result c.min-low.result c.max-high.result c.min-from.result c.max-to.result
     (omega (arith, c.max-longest.ensures)) (omega (arith, c.max-longest.ensures))

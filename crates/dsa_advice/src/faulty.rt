@@ -3,7 +3,7 @@
 use crate::notes::push_span;
 use arrayvec::ArrayVec;
 use dsa_descriptor::{FieldFault, Op, Span, op_at, record_span, u32_at, u64_at};
-use dsa_operations::checksum_at;
+use dsa_operations::{CHECKSUM_FLAGS, ListedOp};
 use dsa_ranges::meets;
 use std::alloc::{AllocError, Global};
 
@@ -26,12 +26,11 @@ fn is_compare(op: Option<Op>) -> bool {
     }
 }
 
-/// The flags from bit 16 on that an operation with these bytes may have: those of a checksum.
+/// The flags from bit 16 on that an operation with these bytes may have.
 fn high_flags_of(entry: &[u8; 64]) -> u32 {
-    if checksum_at(entry).is_some() {
-        0x07_0000
-    } else {
-        0
+    match ListedOp::named(entry) {
+        Some(ListedOp::Checksum(_)) => CHECKSUM_FLAGS.0,
+        Some(ListedOp::Descriptor(_)) | None => 0,
     }
 }
 
@@ -72,18 +71,10 @@ fn push_both(
 
 /// What an operation with these bytes reads, and then what it writes beside its record.
 fn data_of(entry: &[u8; 64]) -> ArrayVec<Span, 4> {
-    let size = u32_at(entry, 32);
-    let (sources, targets) = match op_at(entry) {
-        Some(op) => (op.sources(size), op.targets(size)),
-        None => match checksum_at(entry) {
-            Some(op) => (op.sources(size), op.targets(size)),
-            None => (ArrayVec::new(), ArrayVec::new()),
-        },
-    };
-    let mut spans = ArrayVec::new();
-    spans.try_extend_from_slice(sources.as_slice()).unwrap();
-    spans.try_extend_from_slice(targets.as_slice()).unwrap();
-    spans
+    match ListedOp::named(entry) {
+        Some(op) => op.data(u32_at(entry, 32)),
+        None => ArrayVec::new(),
+    }
 }
 
 /// Writes the record and the first of the data that it meets.

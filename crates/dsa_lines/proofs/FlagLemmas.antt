@@ -14,9 +14,9 @@ use Rattle.dsa_operations.specs.declared.checksum_op.Seed.{Seed}
 use Rattle.dsa_operations.specs.declared.checksum_op.Seed.TheVariants.{Given, At}
 use Rattle.dsa_operations.specs.Operands.{has_flag, is_in_memory, seed_of}
 use Rattle.dsa_operations.specs.Profile as checksums
-use Rattle.dsa_lines.specs.declared.operations.LineOp.{LineOp}
-use Rattle.dsa_lines.specs.declared.operations.LineOp.TheVariants as line_op
-use Rattle.dsa_lines.specs.Options.{carried_mask, check_mask, carried_flags, checks_result, flags_with, line_flags, seed_flag}
+use Rattle.dsa_operations.specs.declared.listed_op.ListedOp.{ListedOp}
+use Rattle.dsa_operations.specs.declared.listed_op.ListedOp.TheVariants as either
+use Rattle.dsa_lines.specs.Options.{carried_mask, check_mask, carried_flags, writes_check, flags_with, line_flags, seed_flag}
 
 -- the flags that neither kind of operation may have, whatever it does
 abbrev refused_mask : ℕ
@@ -77,7 +77,7 @@ check_value x zero e lt = rw e refl
 check_value x (suc zero) e lt = rw e refl
 check_value x (suc (suc b)) e lt = absurd (omega arith)
 
-check_is : (flags : ℕ) → cond (checks_result flags) check_mask 0 ≡ bit_and flags check_mask
+check_is : (flags : ℕ) → cond (writes_check flags) check_mask 0 ≡ bit_and flags check_mask
 check_is flags = check_value (bit_and flags check_mask) (bit_at flags 7) (and_pow flags 7) (bit_at-lt flags 7)
 
 -- ---- all bits
@@ -121,16 +121,16 @@ bit_again flags i required refused fit =
 
 -- the options of the canonical line and what the seed says give the flags
 parts_again : (flags told : ℕ) → bit_and flags required_flags ≡ required_flags → bit_and flags refused_mask ≡ 0 → flags < 2 ^ 24 → told ≡ bit_and flags seed_mask
-    → bit_or (flags_with (carried_flags flags) (checks_result flags)) told ≡ flags
+    → bit_or (flags_with (carried_flags flags) (writes_check flags)) told ≡ flags
 parts_again flags told required refused fit is =
     (λ i. bit_or (bit_or (bit_or required_flags (carried_flags flags)) (check_is flags i)) (is i))
     ∙ same_from_bits (gathered flags) flags (λ i. bit_again flags i required refused fit)
 
 -- those of a descriptor, which has no seed
-pub flags_again : (op : Op) (flags : ℕ) → AreListedFlags op flags → flags < 2 ^ 24 → flags_with (carried_flags flags) (checks_result flags) ≡ flags
+pub flags_again : (op : Op) (flags : ℕ) → AreListedFlags op flags → flags < 2 ^ 24 → flags_with (carried_flags flags) (writes_check flags) ≡ flags
 flags_again op flags listed fit =
     let refused = part_none flags (refused_flags op) 0xf90051 listed.refused (refuses op) in
-    sym (or_zero_r (flags_with (carried_flags flags) (checks_result flags)))
+    sym (or_zero_r (flags_with (carried_flags flags) (writes_check flags)))
     ∙ parts_again flags 0 listed.required (part_none flags 0xf90051 refused_mask refused refl) fit (sym (part_none flags 0xf90051 seed_mask refused refl))
 
 -- the flag of a seed is that of the flags which tell where the seed is
@@ -143,7 +143,7 @@ seed_value x (suc (suc b)) seed e lt told = absurd (omega arith)
 
 -- those of a checksum
 pub checksum_flags_again : (op : ChecksumOp) (flags : ℕ) → checksums.AreListedFlags flags → checksums.TellsSeed flags op → flags < 2 ^ 24
-    → bit_or (flags_with (carried_flags flags) (checks_result flags)) (seed_flag (seed_of op)) ≡ flags
+    → bit_or (flags_with (carried_flags flags) (writes_check flags)) (seed_flag (seed_of op)) ≡ flags
 checksum_flags_again op flags listed told fit =
     parts_again flags (seed_flag (seed_of op)) listed.required (part_none flags checksums.refused_flags refused_mask listed.refused refl) fit
     (seed_value (bit_and flags seed_mask) (bit_at flags 16) (seed_of op) (and_pow flags 16) (bit_at-lt flags 16) told)
@@ -212,9 +212,9 @@ seed_below : (seed : Seed) → seed_flag seed < 2 ^ 24
 seed_below (Given value) = omega arith
 seed_below (At address) = omega arith
 
-pub line_flags_below : (op : LineOp) (carried : ℕ) (check : Bool) → bit_and carried carried_mask ≡ carried → line_flags op carried check < 2 ^ 24
-line_flags_below (line_op.Descriptor op) carried check inside = flags_below carried check inside
-line_flags_below (line_op.Checksum op) carried check inside =
+pub line_flags_below : (op : ListedOp) (carried : ℕ) (check : Bool) → bit_and carried carried_mask ≡ carried → line_flags op carried check < 2 ^ 24
+line_flags_below (either.Descriptor op) carried check inside = flags_below carried check inside
+line_flags_below (either.Checksum op) carried check inside =
     or_lt 24 (flags_with carried check) (seed_flag (seed_of op)) (flags_below carried check inside) (seed_below (seed_of op))
 
 -- no line has the flag fence, which is the lowest
@@ -225,8 +225,8 @@ seed_even : (seed : Seed) → bit_and (seed_flag seed) 1 ≡ 0
 seed_even (Given value) = refl
 seed_even (At address) = refl
 
-pub line_flags_even : (op : LineOp) (carried : ℕ) (check : Bool) → bit_and carried carried_mask ≡ carried → line_flags op carried check % 2 ≡ 0
-line_flags_even (line_op.Descriptor op) carried check inside = even_flags (flags_with carried check) (none_with carried check 1 inside refl refl refl)
-line_flags_even (line_op.Checksum op) carried check inside =
+pub line_flags_even : (op : ListedOp) (carried : ℕ) (check : Bool) → bit_and carried carried_mask ≡ carried → line_flags op carried check % 2 ≡ 0
+line_flags_even (either.Descriptor op) carried check inside = even_flags (flags_with carried check) (none_with carried check 1 inside refl refl refl)
+line_flags_even (either.Checksum op) carried check inside =
     even_flags (bit_or (flags_with carried check) (seed_flag (seed_of op)))
     (and_or_apart 1 (flags_with carried check) (seed_flag (seed_of op)) (seed_even (seed_of op)) ∙ none_with carried check 1 inside refl refl refl)

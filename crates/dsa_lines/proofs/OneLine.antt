@@ -19,8 +19,8 @@ use Rattle.dsa_operations.specs.Operations.{spelling_of}
 use Rattle.dsa_operations.specs.Profile.{SeedFits}
 use Rattle.dsa_operations.specs.Profile as checksums
 use Rattle.dsa_operations.proofs.Same.{AreFitting, flags_of, operation_fits, same_fields}
-use Rattle.dsa_lines.specs.declared.operations.LineOp.{LineOp}
-use Rattle.dsa_lines.specs.declared.operations.LineOp.TheVariants as line_op
+use Rattle.dsa_operations.specs.declared.listed_op.ListedOp.{ListedOp}
+use Rattle.dsa_operations.specs.declared.listed_op.ListedOp.TheVariants as either
 use Rattle.dsa_lines.specs.declared.options.Options.{Options}
 use Rattle.dsa_lines.specs.Words.{Word, is_blank, is_in_word, goes_on, with_front, words_in, words_of}
 use Rattle.dsa_lines.specs.Numbers.{number_of, numeral_after, pattern_of, pattern_with, scaled, last_byte, before_last, size_of}
@@ -177,15 +177,15 @@ pattern_fits (w ∷ ws) r e =
 -- ---- operations
 
 -- the fields of the operation of a line fit their places
-abbrev LineFits : LineOp → Type 0
-LineFits (line_op.Descriptor op) = FieldsFit op
-LineFits (line_op.Checksum op) = checksums.FieldsFit op
+abbrev LineFits : ListedOp → Type 0
+LineFits (either.Descriptor op) = FieldsFit op
+LineFits (either.Checksum op) = checksums.FieldsFit op
 
 -- so does its size, and if the words that are left have no newline, none of the words has
-abbrev OpFits : List Word → LineOp × ℕ × List Word → Type 0
+abbrev OpFits : List Word → ListedOp × ℕ × List Word → Type 0
 OpFits ws r = LineFits r.0 × (r.1 < 2 ^ 32) × (Lined r.2 → Lined ws)
 
-move_fits : (ws : List Word) (r : LineOp × ℕ × List Word) → move_at ws ≡ Some r → OpFits ws r
+move_fits : (ws : List Word) (r : ListedOp × ℕ × List Word) → move_at ws ≡ Some r → OpFits ws r
 unfolding move_at
 move_fits ws r e =
     let src = bound (number_at (greatest 64) ws) _ r e in
@@ -204,7 +204,7 @@ move_fits ws r e =
           after_lined (codes ",") dst.0.1 comma.0 refl comma.1 (sized.1 h)))),
     )
 
-fill_fits : (ws : List Word) (r : LineOp × ℕ × List Word) → fill_at ws ≡ Some r → OpFits ws r
+fill_fits : (ws : List Word) (r : ListedOp × ℕ × List Word) → fill_at ws ≡ Some r → OpFits ws r
 unfolding fill_at
 fill_fits ws r e =
     let dst = bound (number_at (greatest 64) ws) _ r e in
@@ -243,7 +243,7 @@ expected_fits ws r e =
           named_lined (codes "expect") size.0.1 expect.0 refl expect.1 (number_lined 1 expect.0 bit.0 bit.1 h))),
     )
 
-region_fits : (src : ℕ) (ws : List Word) (r : LineOp × ℕ × List Word) → src < 2 ^ 64 → compare_region_at src ws ≡ Some r → OpFits ws r
+region_fits : (src : ℕ) (ws : List Word) (r : ListedOp × ℕ × List Word) → src < 2 ^ 64 → compare_region_at src ws ≡ Some r → OpFits ws r
 unfolding compare_region_at
 region_fits src ws r lt e =
     let src2 = bound (number_at (greatest 64) ws) _ r e in
@@ -251,7 +251,7 @@ region_fits src ws r lt e =
     let fits = expected_fits src2.0.1 expected.0 expected.1 in
     subst (OpFits ws) (same_Some _ r expected.2) ((lt, address_fits ws src2.0 src2.1, fits.1), fits.0, λ h. number_lined (greatest 64) ws src2.0 src2.1 (fits.2 h))
 
-compared_fits : (src : ℕ) (ws : List Word) (r : LineOp × ℕ × List Word) → src < 2 ^ 64 → compare_pattern_at src ws ≡ Some r → OpFits ws r
+compared_fits : (src : ℕ) (ws : List Word) (r : ListedOp × ℕ × List Word) → src < 2 ^ 64 → compare_pattern_at src ws ≡ Some r → OpFits ws r
 unfolding compare_pattern_at
 compared_fits src ws r lt e =
     let pattern = bound (pattern_at ws) _ r e in
@@ -260,13 +260,13 @@ compared_fits src ws r lt e =
     let fits = expected_fits pattern.0.1 expected.0 expected.1 in
     subst (OpFits ws) (same_Some _ r expected.2) ((lt, read.0, fits.1), fits.0, λ h. read.1 (fits.2 h))
 
-other_fits : (src : ℕ) (ws : List Word) (rest : Option (List Word)) (r : LineOp × ℕ × List Word) → src < 2 ^ 64 → after (codes "pattern") ws ≡ rest → compare_other_at src ws rest ≡ Some r → OpFits ws r
+other_fits : (src : ℕ) (ws : List Word) (rest : Option (List Word)) (r : ListedOp × ℕ × List Word) → src < 2 ^ 64 → after (codes "pattern") ws ≡ rest → compare_other_at src ws rest ≡ Some r → OpFits ws r
 other_fits src ws None r lt word e = region_fits src ws r lt e
 other_fits src ws (Some rest) r lt word e =
     let fits = compared_fits src rest r lt e in
     (fits.0, fits.1, λ h. after_lined (codes "pattern") ws rest refl word (fits.2 h))
 
-compare_fits : (ws : List Word) (r : LineOp × ℕ × List Word) → compare_at ws ≡ Some r → OpFits ws r
+compare_fits : (ws : List Word) (r : ListedOp × ℕ × List Word) → compare_at ws ≡ Some r → OpFits ws r
 unfolding compare_at
 compare_fits ws r e =
     let src = bound (number_at (greatest 64) ws) _ r e in
@@ -274,7 +274,7 @@ compare_fits ws r e =
     let fits = other_fits src.0.0 other.0 (after (codes "pattern") other.0) r (address_fits ws src.0 src.1) refl other.2 in
     (fits.0, fits.1, λ h. number_lined (greatest 64) ws src.0 src.1 (after_lined (codes "with") src.0.1 other.0 refl other.1 (fits.2 h)))
 
-delta_fits : (ws : List Word) (r : LineOp × ℕ × List Word) → delta_at ws ≡ Some r → OpFits ws r
+delta_fits : (ws : List Word) (r : ListedOp × ℕ × List Word) → delta_at ws ≡ Some r → OpFits ws r
 unfolding delta_at
 delta_fits ws r e =
     let delta = bound (number_at (greatest 64) ws) _ r e in
@@ -298,7 +298,7 @@ delta_fits ws r e =
           after_lined (codes ",") dst.0.1 second.0 refl second.1 (sized.1 h)))))),
     )
 
-dualcast_fits : (ws : List Word) (r : LineOp × ℕ × List Word) → dualcast_at ws ≡ Some r → OpFits ws r
+dualcast_fits : (ws : List Word) (r : ListedOp × ℕ × List Word) → dualcast_at ws ≡ Some r → OpFits ws r
 unfolding dualcast_at
 dualcast_fits ws r e =
     let src = bound (number_at (greatest 64) ws) _ r e in
@@ -350,7 +350,7 @@ seed_fits : (ws : List Word) (r : Seed × List Word) → seed_at ws ≡ Some r �
 unfolding seed_at
 seed_fits ws r e = seed_or_zero_fits ws (named (codes "seed") ws) r refl e
 
-crc_fits : (ws : List Word) (r : LineOp × ℕ × List Word) → crc_at ws ≡ Some r → OpFits ws r
+crc_fits : (ws : List Word) (r : ListedOp × ℕ × List Word) → crc_at ws ≡ Some r → OpFits ws r
 unfolding crc_at
 crc_fits ws r e =
     let src = bound (number_at (greatest 64) ws) _ r e in
@@ -365,7 +365,7 @@ crc_fits ws r e =
       λ h. number_lined (greatest 64) ws src.0 src.1 (after_lined (codes ",") src.0.1 comma.0 refl comma.1 (sized.1 (seeded.1 h))),
     )
 
-copy_crc_fits : (ws : List Word) (r : LineOp × ℕ × List Word) → copy_crc_at ws ≡ Some r → OpFits ws r
+copy_crc_fits : (ws : List Word) (r : ListedOp × ℕ × List Word) → copy_crc_at ws ≡ Some r → OpFits ws r
 unfolding copy_crc_at
 copy_crc_fits ws r e =
     let src = bound (number_at (greatest 64) ws) _ r e in
@@ -387,10 +387,10 @@ copy_crc_fits ws r e =
     )
 
 -- the same after the operation's name
-op_named : (w name : Word) (ws : List Word) (r : LineOp × ℕ × List Word) → begins_newline name ≡ false → OpFits ws r → bytes_eq w name ≡ true → OpFits (w ∷ ws) r
+op_named : (w name : Word) (ws : List Word) (r : ListedOp × ℕ × List Word) → begins_newline name ≡ false → OpFits ws r → bytes_eq w name ≡ true → OpFits (w ∷ ws) r
 op_named w name ws r plain fits e = (fits.0, fits.1, λ h. (same_lined w name e plain, fits.2 h))
 
-op_fits : (ws : List Word) (r : LineOp × ℕ × List Word) → op_at ws ≡ Some r → OpFits ws r
+op_fits : (ws : List Word) (r : ListedOp × ℕ × List Word) → op_at ws ≡ Some r → OpFits ws r
 unfolding op_at
 op_fits [] r e = absurd cc
 op_fits (w ∷ ws) r e =
@@ -472,18 +472,18 @@ options_fit (suc most) o (w ∷ ws) r fit e =
 -- ---- a line
 
 -- so do the fields of a line with these options
-fields_fit : (op : LineOp) (size record_at : ℕ) (o : Options) → LineFits op → size < 2 ^ 32 → record_at < 2 ^ 64 → OptionsFit o → AreFitting (fields_with op size record_at o)
-fields_fit (line_op.Descriptor op) size record_at o fits sized recorded options = record {
+fields_fit : (op : ListedOp) (size record_at : ℕ) (o : Options) → LineFits op → size < 2 ^ 32 → record_at < 2 ^ 64 → OptionsFit o → AreFitting (fields_with op size record_at o)
+fields_fit (either.Descriptor op) size record_at o fits sized recorded options = record {
   pasid_fits = options.0;
-  flags_fit = line_flags_below (line_op.Descriptor op) (or_zero o.flags) o.check options.1;
+  flags_fit = line_flags_below (either.Descriptor op) (or_zero o.flags) o.check options.1;
   record_at_fits = recorded;
   size_fits = sized;
   int_handle_fits = options.2;
   op_fits = fits;
 }
-fields_fit (line_op.Checksum op) size record_at o fits sized recorded options = record {
+fields_fit (either.Checksum op) size record_at o fits sized recorded options = record {
   pasid_fits = options.0;
-  flags_fit = line_flags_below (line_op.Checksum op) (or_zero o.flags) o.check options.1;
+  flags_fit = line_flags_below (either.Checksum op) (or_zero o.flags) o.check options.1;
   record_at_fits = recorded;
   size_fits = sized;
   int_handle_fits = options.2;
@@ -492,9 +492,9 @@ fields_fit (line_op.Checksum op) size record_at o fits sized recorded options = 
 }
 
 -- and they have no fence
-fields_plain : (op : LineOp) (size record_at : ℕ) (o : Options) → OptionsFit o → flags_of (fields_with op size record_at o) % 2 ≡ 0
-fields_plain (line_op.Descriptor op) size record_at o options = line_flags_even (line_op.Descriptor op) (or_zero o.flags) o.check options.1
-fields_plain (line_op.Checksum op) size record_at o options = line_flags_even (line_op.Checksum op) (or_zero o.flags) o.check options.1
+fields_plain : (op : ListedOp) (size record_at : ℕ) (o : Options) → OptionsFit o → flags_of (fields_with op size record_at o) % 2 ≡ 0
+fields_plain (either.Descriptor op) size record_at o options = line_flags_even (either.Descriptor op) (or_zero o.flags) o.check options.1
+fields_plain (either.Checksum op) size record_at o options = line_flags_even (either.Checksum op) (or_zero o.flags) o.check options.1
 
 -- what a line spells
 abbrev pub AreOfLine : OperationFields → Type 0

@@ -14,12 +14,12 @@ use Rattle.dsa_operations.specs.OperationFields.{OperationFields, AreListedField
 use Rattle.dsa_operations.specs.OperationFields.OperationFields.{OfDescriptor, OfChecksum}
 use Rattle.dsa_operations.specs.Profile.{SeedFits}
 use Rattle.dsa_operations.specs.Profile as checksums
-use Rattle.dsa_lines.specs.declared.operations.LineOp.{LineOp}
-use Rattle.dsa_lines.specs.declared.operations.LineOp.TheVariants as line_op
+use Rattle.dsa_operations.specs.declared.listed_op.ListedOp.{ListedOp}
+use Rattle.dsa_operations.specs.declared.listed_op.ListedOp.TheVariants as either
 use Rattle.dsa_lines.specs.declared.options.Options.{Options}
 use Rattle.dsa_lines.specs.Words.{Word, words_of}
 use Rattle.dsa_lines.specs.Numbers.{hex, pattern_word}
-use Rattle.dsa_lines.specs.Options.{no_options, or_zero, fields_by, fields_with, line_flags, carried_mask, carried_flags, checks_result}
+use Rattle.dsa_lines.specs.Options.{no_options, or_zero, fields_by, fields_with, line_flags, carried_mask, carried_flags, writes_check}
 use Rattle.dsa_lines.specs.Grammar.{greatest, after, number_at, count_at, pattern_at, size_at, move_at, fill_at, expected_at, compare_region_at, compare_pattern_at, compare_at, delta_at, dualcast_at, seed_at, crc_at, copy_crc_at, op_at, pasid_at, privileged_at, check_at, flags_at, handle_at, option_at, options_at, fields_of, Spells}
 use Rattle.dsa_lines.specs.Text.{op_words, checksum_words, seed_words, sized_words, operation_words, number_option, name_option, option_words, later_words, fields_later, line_words, tail_text, text_of, line_text, spaced}
 use Rattle.dsa_lines.proofs.WordLemmas.{AreWords, is_word, text_words}
@@ -45,13 +45,13 @@ unfolding size_at
 sized_again n ws lt = rw (count_again n (codes "bytes" ∷ ws) lt) refl
 
 move_again : (src dst size : ℕ) (ws : List Word) → src < 2 ^ 64 → dst < 2 ^ 64 → size < 2 ^ 32
-    → move_at (hex src ∷ codes "->" ∷ hex dst ∷ codes "," ∷ decimal size ∷ codes "bytes" ∷ ws) ≡ Some (line_op.Descriptor (Move src dst), size, ws)
+    → move_at (hex src ∷ codes "->" ∷ hex dst ∷ codes "," ∷ decimal size ∷ codes "bytes" ∷ ws) ≡ Some (either.Descriptor (Move src dst), size, ws)
 unfolding move_at
 move_again src dst size ws a b c =
     rw (hex_at src (greatest 64) (codes "->" ∷ hex dst ∷ codes "," ∷ decimal size ∷ codes "bytes" ∷ ws) a (omega arith), hex_at dst (greatest 64) (codes "," ∷ decimal size ∷ codes "bytes" ∷ ws) b (omega arith), sized_again size ws c) refl
 
 fill_again : (pattern dst size : ℕ) (ws : List Word) → pattern < 2 ^ 64 → dst < 2 ^ 64 → size < 2 ^ 32
-    → fill_at (hex dst ∷ codes "with" ∷ pattern_word pattern ∷ codes "," ∷ decimal size ∷ codes "bytes" ∷ ws) ≡ Some (line_op.Descriptor (Fill pattern dst), size, ws)
+    → fill_at (hex dst ∷ codes "with" ∷ pattern_word pattern ∷ codes "," ∷ decimal size ∷ codes "bytes" ∷ ws) ≡ Some (either.Descriptor (Fill pattern dst), size, ws)
 unfolding fill_at
 fill_again pattern dst size ws a b c =
     let w2 : List Word = codes "," ∷ decimal size ∷ codes "bytes" ∷ ws in
@@ -69,31 +69,31 @@ abbrev expected_words : ℕ → ℕ → List Word → List Word
 expected_words expected size ws = codes "," ∷ decimal size ∷ codes "bytes" ∷ codes "," ∷ codes "expect" ∷ decimal expected ∷ ws
 
 region_again : (src src2 expected size : ℕ) (ws : List Word) → src2 < 2 ^ 64 → expected ≤ 1 → size < 2 ^ 32
-    → compare_region_at src (hex src2 ∷ expected_words expected size ws) ≡ Some (line_op.Descriptor (Compare src src2 expected), size, ws)
+    → compare_region_at src (hex src2 ∷ expected_words expected size ws) ≡ Some (either.Descriptor (Compare src src2 expected), size, ws)
 unfolding compare_region_at
 region_again src src2 expected size ws b e c =
     rw (hex_at src2 (greatest 64) (expected_words expected size ws) b (omega arith), expected_again expected size ws e c) refl
 
 pattern_compared : (src pattern expected size : ℕ) (ws : List Word) → pattern < 2 ^ 64 → expected ≤ 1 → size < 2 ^ 32
-    → compare_pattern_at src (pattern_word pattern ∷ expected_words expected size ws) ≡ Some (line_op.Descriptor (ComparePattern src pattern expected), size, ws)
+    → compare_pattern_at src (pattern_word pattern ∷ expected_words expected size ws) ≡ Some (either.Descriptor (ComparePattern src pattern expected), size, ws)
 unfolding compare_pattern_at
 pattern_compared src pattern expected size ws b e c =
     rw (pattern_here pattern (expected_words expected size ws) b, expected_again expected size ws e c) refl
 
 compare_again : (src src2 expected size : ℕ) (ws : List Word) → src < 2 ^ 64 → src2 < 2 ^ 64 → expected ≤ 1 → size < 2 ^ 32
-    → compare_at (hex src ∷ codes "with" ∷ hex src2 ∷ expected_words expected size ws) ≡ Some (line_op.Descriptor (Compare src src2 expected), size, ws)
+    → compare_at (hex src ∷ codes "with" ∷ hex src2 ∷ expected_words expected size ws) ≡ Some (either.Descriptor (Compare src src2 expected), size, ws)
 unfolding compare_at
 compare_again src src2 expected size ws a b e c =
     rw (hex_at src (greatest 64) (codes "with" ∷ hex src2 ∷ expected_words expected size ws) a (omega arith)) (region_again src src2 expected size ws b e c)
 
 compare_pattern_again : (src pattern expected size : ℕ) (ws : List Word) → src < 2 ^ 64 → pattern < 2 ^ 64 → expected ≤ 1 → size < 2 ^ 32
-    → compare_at (hex src ∷ codes "with" ∷ codes "pattern" ∷ pattern_word pattern ∷ expected_words expected size ws) ≡ Some (line_op.Descriptor (ComparePattern src pattern expected), size, ws)
+    → compare_at (hex src ∷ codes "with" ∷ codes "pattern" ∷ pattern_word pattern ∷ expected_words expected size ws) ≡ Some (either.Descriptor (ComparePattern src pattern expected), size, ws)
 unfolding compare_at
 compare_pattern_again src pattern expected size ws a b e c =
     rw (hex_at src (greatest 64) (codes "with" ∷ codes "pattern" ∷ pattern_word pattern ∷ expected_words expected size ws) a (omega arith)) (pattern_compared src pattern expected size ws b e c)
 
 delta_again : (delta dst record_size size : ℕ) (ws : List Word) → delta < 2 ^ 64 → dst < 2 ^ 64 → record_size < 2 ^ 32 → size < 2 ^ 32
-    → delta_at (hex delta ∷ codes "," ∷ decimal record_size ∷ codes "bytes" ∷ codes "->" ∷ hex dst ∷ codes "," ∷ decimal size ∷ codes "bytes" ∷ ws) ≡ Some (line_op.Descriptor (ApplyDelta delta dst record_size), size, ws)
+    → delta_at (hex delta ∷ codes "," ∷ decimal record_size ∷ codes "bytes" ∷ codes "->" ∷ hex dst ∷ codes "," ∷ decimal size ∷ codes "bytes" ∷ ws) ≡ Some (either.Descriptor (ApplyDelta delta dst record_size), size, ws)
 unfolding delta_at
 delta_again delta dst record_size size ws a b e c =
     let w2 : List Word = codes "," ∷ decimal size ∷ codes "bytes" ∷ ws in
@@ -101,7 +101,7 @@ delta_again delta dst record_size size ws a b e c =
     rw (hex_at delta (greatest 64) (codes "," ∷ decimal record_size ∷ codes "bytes" ∷ w1) a (omega arith), sized_again record_size w1 e, hex_at dst (greatest 64) w2 b (omega arith), sized_again size ws c) refl
 
 dualcast_again : (src dst dst2 size : ℕ) (ws : List Word) → src < 2 ^ 64 → dst < 2 ^ 64 → dst2 < 2 ^ 64 → size < 2 ^ 32
-    → dualcast_at (hex src ∷ codes "->" ∷ hex dst ∷ codes "and" ∷ hex dst2 ∷ codes "," ∷ decimal size ∷ codes "bytes" ∷ ws) ≡ Some (line_op.Descriptor (Dualcast src dst dst2), size, ws)
+    → dualcast_at (hex src ∷ codes "->" ∷ hex dst ∷ codes "and" ∷ hex dst2 ∷ codes "," ∷ decimal size ∷ codes "bytes" ∷ ws) ≡ Some (either.Descriptor (Dualcast src dst dst2), size, ws)
 unfolding dualcast_at
 dualcast_again src dst dst2 size ws a b e c =
     let w2 : List Word = codes "," ∷ decimal size ∷ codes "bytes" ∷ ws in
@@ -109,7 +109,7 @@ dualcast_again src dst dst2 size ws a b e c =
     rw (hex_at src (greatest 64) (codes "->" ∷ hex dst ∷ w1) a (omega arith), hex_at dst (greatest 64) w1 b (omega arith), hex_at dst2 (greatest 64) w2 e (omega arith), sized_again size ws c) refl
 
 -- the words of an operation are read
-op_again : (op : Op) (size : ℕ) (ws : List Word) → FieldsFit op → HasExpectedBit op → size < 2 ^ 32 → op_at (op_words op size ++ ws) ≡ Some (line_op.Descriptor op, size, ws)
+op_again : (op : Op) (size : ℕ) (ws : List Word) → FieldsFit op → HasExpectedBit op → size < 2 ^ 32 → op_at (op_words op size ++ ws) ≡ Some (either.Descriptor op, size, ws)
 unfolding op_at
 op_again (Move src dst) size ws fit bit s = move_again src dst size ws fit.0 fit.1 s
 op_again (Fill pattern dst) size ws fit bit s = fill_again pattern dst size ws fit.0 fit.1 s
@@ -125,21 +125,21 @@ seed_again (Given value) ws fit = rw (hex_at value (greatest 32) ws (omega (arit
 seed_again (At address) ws fit = rw (hex_at address (greatest 64) ws fit (omega (arith, fit))) refl
 
 crc_again : (src size : ℕ) (seed : Seed) (ws : List Word) → src < 2 ^ 64 → SeedFits seed → size < 2 ^ 32
-    → crc_at (hex src ∷ (sized_words size seed ++ ws)) ≡ Some (line_op.Checksum (Crc src seed), size, ws)
+    → crc_at (hex src ∷ (sized_words size seed ++ ws)) ≡ Some (either.Checksum (Crc src seed), size, ws)
 unfolding crc_at
 crc_again src size seed ws a e c =
     let w1 : List Word = codes "," ∷ (seed_words seed ++ ws) in
     rw (hex_at src (greatest 64) (sized_words size seed ++ ws) a (omega arith), sized_again size w1 c, seed_again seed ws e) refl
 
 copy_crc_again : (src dst size : ℕ) (seed : Seed) (ws : List Word) → src < 2 ^ 64 → dst < 2 ^ 64 → SeedFits seed → size < 2 ^ 32
-    → copy_crc_at (hex src ∷ codes "->" ∷ hex dst ∷ (sized_words size seed ++ ws)) ≡ Some (line_op.Checksum (CopyCrc src dst seed), size, ws)
+    → copy_crc_at (hex src ∷ codes "->" ∷ hex dst ∷ (sized_words size seed ++ ws)) ≡ Some (either.Checksum (CopyCrc src dst seed), size, ws)
 unfolding copy_crc_at
 copy_crc_again src dst size seed ws a b e c =
     let w2 : List Word = codes "," ∷ (seed_words seed ++ ws) in
     let w1 : List Word = sized_words size seed ++ ws in
     rw (hex_at src (greatest 64) (codes "->" ∷ hex dst ∷ w1) a (omega arith), hex_at dst (greatest 64) w1 b (omega arith), sized_again size w2 c, seed_again seed ws e) refl
 
-checksum_again : (op : ChecksumOp) (size : ℕ) (ws : List Word) → checksums.FieldsFit op → size < 2 ^ 32 → op_at (checksum_words op size ++ ws) ≡ Some (line_op.Checksum op, size, ws)
+checksum_again : (op : ChecksumOp) (size : ℕ) (ws : List Word) → checksums.FieldsFit op → size < 2 ^ 32 → op_at (checksum_words op size ++ ws) ≡ Some (either.Checksum op, size, ws)
 unfolding op_at
 checksum_again (Crc src seed) size ws fit s = crc_again src size seed ws fit.0 fit.1 s
 checksum_again (CopyCrc src dst seed) size ws fit s = copy_crc_again src dst size seed ws fit.0 fit.1 fit.2 s
@@ -230,9 +230,9 @@ pasid_read false id q c n h e ltid lt same lth =
 -- the options of the canonical line are read
 options_again : (pasid : ℕ) (privileged : Bool) (flags int_handle : ℕ) → pasid < 2 ^ 20 → int_handle < 2 ^ 16
     → options_at 5 no_options (option_words pasid privileged flags int_handle)
-    ≡ Some (opts (some_number pasid) privileged (checks_result flags) (some_number (carried_flags flags)) (some_number int_handle))
+    ≡ Some (opts (some_number pasid) privileged (writes_check flags) (some_number (carried_flags flags)) (some_number int_handle))
 options_again pasid privileged flags int_handle lt lth =
-    pasid_read (pasid == 0) pasid privileged (checks_result flags) (carried_flags flags) int_handle refl lt (carried_fit flags) (carried_again flags) lth
+    pasid_read (pasid == 0) pasid privileged (writes_check flags) (carried_flags flags) int_handle refl lt (carried_fit flags) (carried_again flags) lth
 
 -- ---- the words of the line
 
@@ -253,7 +253,7 @@ options_are pasid privileged flags int_handle lt lth =
     let carried : carried_flags flags < 2 ^ 24 = carried_fit flags in
     are_append (number_option (codes "pasid") pasid) _ (number_are (pasid == 0) (codes "pasid") pasid refl refl (omega arith))
     (are_append (name_option (codes "privileged") privileged) _ (name_are privileged (codes "privileged") refl)
-    (are_append (name_option (codes "check") (checks_result flags)) _ (name_are (checks_result flags) (codes "check") refl)
+    (are_append (name_option (codes "check") (writes_check flags)) _ (name_are (writes_check flags) (codes "check") refl)
     (are_append (number_option (codes "flags") (carried_flags flags)) _ (number_are (carried_flags flags == 0) (codes "flags") (carried_flags flags) refl refl (omega arith))
     (number_are (int_handle == 0) (codes "handle") int_handle refl refl (omega arith)))))
 
@@ -314,16 +314,16 @@ fields_later_are (OfChecksum f) listed = later_are f.record_at f.pasid f.privile
 
 -- what is read of the options of a line
 abbrev opts_of : ℕ → Bool → ℕ → ℕ → Options
-opts_of pasid privileged flags int_handle = opts (some_number pasid) privileged (checks_result flags) (some_number (carried_flags flags)) (some_number int_handle)
+opts_of pasid privileged flags int_handle = opts (some_number pasid) privileged (writes_check flags) (some_number (carried_flags flags)) (some_number int_handle)
 
 -- they give the fields of the line again
-fields_again : (op : LineOp) (size record_at pasid : ℕ) (privileged : Bool) (flags int_handle : ℕ) → line_flags op (carried_flags flags) (checks_result flags) ≡ flags
+fields_again : (op : ListedOp) (size record_at pasid : ℕ) (privileged : Bool) (flags int_handle : ℕ) → line_flags op (carried_flags flags) (writes_check flags) ≡ flags
     → fields_with op size record_at (opts_of pasid privileged flags int_handle) ≡ fields_by op pasid privileged flags record_at size int_handle
 fields_again op size record_at pasid privileged flags int_handle again =
     let first = number_back (pasid == 0) pasid refl in
     let last = number_back (int_handle == 0) int_handle refl in
-    let same : line_flags op (or_zero (some_number (carried_flags flags))) (checks_result flags) ≡ flags =
-    ap (λ (n : ℕ). line_flags op n (checks_result flags)) (number_back (carried_flags flags == 0) (carried_flags flags) refl) ∙ again in
+    let same : line_flags op (or_zero (some_number (carried_flags flags))) (writes_check flags) ≡ flags =
+    ap (λ (n : ℕ). line_flags op n (writes_check flags)) (number_back (carried_flags flags == 0) (carried_flags flags) refl) ∙ again in
     λ i. fields_by op (first i) privileged (same i) record_at size (last i)
 
 words_spell : (f : OperationFields) → AreListedFields f → fields_of (line_words f) ≡ Some f
@@ -333,13 +333,13 @@ words_spell (OfDescriptor f) listed =
       op_again f.op f.size (fields_later (OfDescriptor f)) listed.op_fits listed.expected_bit listed.size_fits,
       hex_at f.record_at (greatest 64) (option_words f.pasid f.privileged f.flags f.int_handle) listed.record_at_fits (omega (arith, listed.record_at_fits)),
       options_again f.pasid f.privileged f.flags f.int_handle listed.pasid_fits listed.int_handle_fits,
-    ) (ap Some (fields_again (line_op.Descriptor f.op) f.size f.record_at f.pasid f.privileged f.flags f.int_handle (flags_again f.op f.flags listed.flags_listed listed.flags_fit)))
+    ) (ap Some (fields_again (either.Descriptor f.op) f.size f.record_at f.pasid f.privileged f.flags f.int_handle (flags_again f.op f.flags listed.flags_listed listed.flags_fit)))
 words_spell (OfChecksum f) listed =
     rw (
       checksum_again f.op f.size (fields_later (OfChecksum f)) listed.op_fits listed.size_fits,
       hex_at f.record_at (greatest 64) (option_words f.pasid f.privileged f.flags f.int_handle) listed.record_at_fits (omega (arith, listed.record_at_fits)),
       options_again f.pasid f.privileged f.flags f.int_handle listed.pasid_fits listed.int_handle_fits,
-    ) (ap Some (fields_again (line_op.Checksum f.op) f.size f.record_at f.pasid f.privileged f.flags f.int_handle (checksum_flags_again f.op f.flags listed.flags_listed listed.seed_told listed.flags_fit)))
+    ) (ap Some (fields_again (either.Checksum f.op) f.size f.record_at f.pasid f.privileged f.flags f.int_handle (checksum_flags_again f.op f.flags listed.flags_listed listed.seed_told listed.flags_fit)))
 
 -- the words of the line
 line_text_words : (f : OperationFields) → AreListedFields f → words_of (line_text f) ≡ line_words f
@@ -389,11 +389,11 @@ line_is (OfDescriptor f) = op_append f.op f.size (fields_later (OfDescriptor f))
 line_is (OfChecksum f) = checksum_append f.op f.size (fields_later (OfChecksum f))
 
 -- so of a line whose operation may be of either kind
-pub line_by : (op : LineOp) (pasid : ℕ) (privileged : Bool) (flags record_at size int_handle : ℕ)
+pub line_by : (op : ListedOp) (pasid : ℕ) (privileged : Bool) (flags record_at size int_handle : ℕ)
     → line_text (fields_by op pasid privileged flags record_at size int_handle)
     ≡ text_of (operation_words (fields_by op pasid privileged flags record_at size int_handle)) ++ tail_text (later_words record_at pasid privileged flags int_handle)
-line_by (line_op.Descriptor op) pasid privileged flags record_at size int_handle = line_is (fields_by (line_op.Descriptor op) pasid privileged flags record_at size int_handle)
-line_by (line_op.Checksum op) pasid privileged flags record_at size int_handle = line_is (fields_by (line_op.Checksum op) pasid privileged flags record_at size int_handle)
+line_by (either.Descriptor op) pasid privileged flags record_at size int_handle = line_is (fields_by (either.Descriptor op) pasid privileged flags record_at size int_handle)
+line_by (either.Checksum op) pasid privileged flags record_at size int_handle = line_is (fields_by (either.Checksum op) pasid privileged flags record_at size int_handle)
 
 five_tails : (a b c d e : List Word) → tail_text (a ++ (b ++ (c ++ (d ++ e)))) ≡ tail_text a ++ (tail_text b ++ (tail_text c ++ (tail_text d ++ tail_text e)))
 five_tails a b c d e = rw (tail_append a (b ++ (c ++ (d ++ e))), tail_append b (c ++ (d ++ e)), tail_append c (d ++ e), tail_append d e) refl
@@ -406,13 +406,13 @@ pub later_is : (t : List ℕ) (record_at pasid : ℕ) (privileged : Bool) (flags
     → t ++ tail_text (later_words record_at pasid privileged flags int_handle) ≡ ((((((t ++ (codes ", record " ++ hex record_at))
     ++ tail_text (number_option (codes "pasid") pasid))
     ++ tail_text (name_option (codes "privileged") privileged))
-    ++ tail_text (name_option (codes "check") (checks_result flags)))
+    ++ tail_text (name_option (codes "check") (writes_check flags)))
     ++ tail_text (number_option (codes "flags") (carried_flags flags)))
     ++ tail_text (number_option (codes "handle") int_handle))
 later_is t record_at pasid privileged flags int_handle =
     let a : List Word = number_option (codes "pasid") pasid in
     let b : List Word = name_option (codes "privileged") privileged in
-    let c : List Word = name_option (codes "check") (checks_result flags) in
+    let c : List Word = name_option (codes "check") (writes_check flags) in
     let d : List Word = number_option (codes "flags") (carried_flags flags) in
     let e : List Word = number_option (codes "handle") int_handle in
     let r : List ℕ = codes ", record " ++ hex record_at in

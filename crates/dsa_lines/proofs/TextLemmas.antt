@@ -8,21 +8,21 @@ use Rattle.dsa_operations.specs.OperationFields.{OperationFields, all_spelled, f
 use Rattle.dsa_lines.specs.Words.{Word, words_of}
 use Rattle.dsa_lines.specs.Grammar.{op_at, fields_of, ◌>>=◌}
 use Rattle.dsa_lines.proofs.WordLemmas.{both, same_word}
-use Rattle.dsa_lines.specs.Texts.{with_byte, lines_of, line_fields, with_fields, all_fields, line_len, lines_after}
+use Rattle.dsa_lines.specs.Texts.{with_byte, lines_of, line_fields, with_fields, all_fields, before, lines_after}
 use Rattle.dsa_lines.specs.TextLists.{LeavesGrammarAt}
 use Rattle.dsa_lines.proofs.LineLemmas.{is_line}
 
 -- ---- lines
 
 len_by : (b : Bool) (c : ℕ) (cs : List ℕ) → (c == 10) ≡ b
-    → lines_of cs ≡ take (line_len cs) cs ∷ lines_after (drop (line_len cs) cs)
-    → lines_of (c ∷ cs) ≡ take (line_len (c ∷ cs)) (c ∷ cs) ∷ lines_after (drop (line_len (c ∷ cs)) (c ∷ cs))
+    → lines_of cs ≡ take (before 10 cs) cs ∷ lines_after (drop (before 10 cs) cs)
+    → lines_of (c ∷ cs) ≡ take (before 10 (c ∷ cs)) (c ∷ cs) ∷ lines_after (drop (before 10 (c ∷ cs)) (c ∷ cs))
 unfolding lines_of
 len_by true c cs e so_far = rw e refl
 len_by false c cs e so_far = rw e (ap (with_byte c) so_far)
 
 -- the first line, and those after its newline
-pub lines_at : (text : List ℕ) → lines_of text ≡ take (line_len text) text ∷ lines_after (drop (line_len text) text)
+pub lines_at : (text : List ℕ) → lines_of text ≡ take (before 10 text) text ∷ lines_after (drop (before 10 text) text)
 unfolding lines_of
 lines_at [] = refl
 lines_at (c ∷ cs) = len_by (c == 10) c cs refl (lines_at cs)
@@ -127,7 +127,7 @@ after_newline (c ∷ cs) lt = ap lines_of (sym (whole cs))
     whole xs = let e : suc (length xs) - 1 ≡ length xs = omega arith in rw e (take-length xs)
 
 -- the first line, as it was split off
-pub first_line : (rest line back : List ℕ) (n : ℕ) → n ≡ line_len rest → line ≡ take n rest → back ≡ drop n rest → lines_of rest ≡ line ∷ lines_after back
+pub first_line : (rest line back : List ℕ) (n : ℕ) → n ≡ before 10 rest → line ≡ take n rest → back ≡ drop n rest → lines_of rest ≡ line ∷ lines_after back
 first_line rest line back n e f g =
     lines_at rest
     ∙ rw (← e) (ap (λ (l : List ℕ). l ∷ lines_after (drop n rest)) (sym f) ∙ ap (λ (b : List ℕ). line ∷ lines_after b) (sym g))
@@ -137,7 +137,7 @@ unfolding all_fields
 no_fields = refl
 
 -- the line before a newline, and the lines after it
-pub more_lines : (rest line back : List ℕ) (n : ℕ) → n ≡ line_len rest → line ≡ take n rest → back ≡ drop n rest → 1 ≤ length back
+pub more_lines : (rest line back : List ℕ) (n : ℕ) → n ≡ before 10 rest → line ≡ take n rest → back ≡ drop n rest → 1 ≤ length back
     → lines_of rest ≡ line ∷ lines_of (take (length back - 1) (drop 1 back))
 more_lines rest line back n e f g lt = first_line rest line back n e f g ∙ ap (λ (ls : List (List ℕ)). line ∷ ls) (after_newline back lt)
 
@@ -152,6 +152,6 @@ no_lines [] lt = refl
 no_lines (c ∷ cs) lt = absurd (omega arith)
 
 -- the last line
-pub last_line : (rest line back : List ℕ) (n : ℕ) → n ≡ line_len rest → line ≡ take n rest → back ≡ drop n rest → length back < 1
+pub last_line : (rest line back : List ℕ) (n : ℕ) → n ≡ before 10 rest → line ≡ take n rest → back ≡ drop n rest → length back < 1
     → lines_of rest ≡ line ∷ []
 last_line rest line back n e f g lt = first_line rest line back n e f g ∙ ap (λ (ls : List (List ℕ)). line ∷ ls) (no_lines back lt)

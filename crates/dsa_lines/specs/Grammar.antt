@@ -6,8 +6,8 @@ use Rattle.dsa_operations.specs.declared.checksum_op.ChecksumOp.TheVariants.{Crc
 use Rattle.dsa_operations.specs.declared.checksum_op.Seed.{Seed}
 use Rattle.dsa_operations.specs.declared.checksum_op.Seed.TheVariants.{Given, At}
 use Rattle.dsa_operations.specs.OperationFields.{OperationFields}
-use Rattle.dsa_lines.specs.declared.operations.LineOp.{LineOp}
-use Rattle.dsa_lines.specs.declared.operations.LineOp.TheVariants.{Descriptor, Checksum}
+use Rattle.dsa_operations.specs.declared.listed_op.ListedOp.{ListedOp}
+use Rattle.dsa_operations.specs.declared.listed_op.ListedOp.TheVariants.{Descriptor, Checksum}
 use Rattle.dsa_lines.specs.declared.options.Options.{Options}
 use Rattle.dsa_lines.specs.Words.{Word, words_of}
 use Rattle.dsa_lines.specs.Numbers.{number_of, pattern_of, size_of}
@@ -56,7 +56,7 @@ size_at words = do
 -- ---- operations, each with its size and the words after it
 
 -- what follows `move`
-unfoldable pub move_at : List Word → Option (LineOp × ℕ × List Word)
+unfoldable pub move_at : List Word → Option (ListedOp × ℕ × List Word)
 move_at words = do
   src ← number_at (greatest 64) words
   to ← after (codes "->") src.1
@@ -66,7 +66,7 @@ move_at words = do
   Some (Descriptor (Move src.0 dst.0), size.0, size.1)
 
 -- what follows `fill`
-unfoldable pub fill_at : List Word → Option (LineOp × ℕ × List Word)
+unfoldable pub fill_at : List Word → Option (ListedOp × ℕ × List Word)
 fill_at words = do
   dst ← number_at (greatest 64) words
   filled ← after (codes "with") dst.1
@@ -85,33 +85,33 @@ expected_at words = do
   Some (size.0, bit.0, bit.1)
 
 -- what follows `with` in a comparison of two regions
-unfoldable pub compare_region_at : ℕ → List Word → Option (LineOp × ℕ × List Word)
+unfoldable pub compare_region_at : ℕ → List Word → Option (ListedOp × ℕ × List Word)
 compare_region_at src words = do
   src2 ← number_at (greatest 64) words
   expected ← expected_at src2.1
   Some (Descriptor (Compare src src2.0 expected.1), expected.0, expected.2)
 
 -- what follows `with pattern`
-unfoldable pub compare_pattern_at : ℕ → List Word → Option (LineOp × ℕ × List Word)
+unfoldable pub compare_pattern_at : ℕ → List Word → Option (ListedOp × ℕ × List Word)
 compare_pattern_at src words = do
   pattern ← pattern_at words
   expected ← expected_at pattern.1
   Some (Descriptor (ComparePattern src pattern.0 expected.1), expected.0, expected.2)
 
 -- with the pattern after `pattern`, or with a second region if that word is missing
-abbrev pub compare_other_at : ℕ → List Word → Option (List Word) → Option (LineOp × ℕ × List Word)
+abbrev pub compare_other_at : ℕ → List Word → Option (List Word) → Option (ListedOp × ℕ × List Word)
 compare_other_at src words None = compare_region_at src words
 compare_other_at src words (Some rest) = compare_pattern_at src rest
 
 -- what follows `compare`
-unfoldable pub compare_at : List Word → Option (LineOp × ℕ × List Word)
+unfoldable pub compare_at : List Word → Option (ListedOp × ℕ × List Word)
 compare_at words = do
   src ← number_at (greatest 64) words
   other ← after (codes "with") src.1
   compare_other_at src.0 other (after (codes "pattern") other)
 
 -- what follows `delta`
-unfoldable pub delta_at : List Word → Option (LineOp × ℕ × List Word)
+unfoldable pub delta_at : List Word → Option (ListedOp × ℕ × List Word)
 delta_at words = do
   delta ← number_at (greatest 64) words
   comma ← after (codes ",") delta.1
@@ -123,7 +123,7 @@ delta_at words = do
   Some (Descriptor (ApplyDelta delta.0 dst.0 record_size.0), size.0, size.1)
 
 -- what follows `dualcast`
-unfoldable pub dualcast_at : List Word → Option (LineOp × ℕ × List Word)
+unfoldable pub dualcast_at : List Word → Option (ListedOp × ℕ × List Word)
 dualcast_at words = do
   src ← number_at (greatest 64) words
   to ← after (codes "->") src.1
@@ -157,7 +157,7 @@ unfoldable pub seed_at : List Word → Option (Seed × List Word)
 seed_at words = seed_or_zero words (named (codes "seed") words)
 
 -- what follows `crc`
-unfoldable pub crc_at : List Word → Option (LineOp × ℕ × List Word)
+unfoldable pub crc_at : List Word → Option (ListedOp × ℕ × List Word)
 crc_at words = do
   src ← number_at (greatest 64) words
   comma ← after (codes ",") src.1
@@ -166,7 +166,7 @@ crc_at words = do
   Some (Checksum (Crc src.0 seed.0), size.0, seed.1)
 
 -- what follows `copy_crc`
-unfoldable pub copy_crc_at : List Word → Option (LineOp × ℕ × List Word)
+unfoldable pub copy_crc_at : List Word → Option (ListedOp × ℕ × List Word)
 copy_crc_at words = do
   src ← number_at (greatest 64) words
   to ← after (codes "->") src.1
@@ -177,7 +177,7 @@ copy_crc_at words = do
   Some (Checksum (CopyCrc src.0 dst.0 seed.0), size.0, seed.1)
 
 -- an operation, by its first word
-unfoldable pub op_at : List Word → Option (LineOp × ℕ × List Word)
+unfoldable pub op_at : List Word → Option (ListedOp × ℕ × List Word)
 op_at [] = None
 op_at (w ∷ ws) =
     if bytes_eq w (codes "move") then move_at ws else

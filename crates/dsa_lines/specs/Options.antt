@@ -6,8 +6,8 @@ use Rattle.dsa_operations.specs.declared.checksum_op.Seed.TheVariants.{Given, At
 use Rattle.dsa_operations.specs.OperationFields.{OperationFields}
 use Rattle.dsa_operations.specs.OperationFields.OperationFields.{OfDescriptor, OfChecksum}
 use Rattle.dsa_operations.specs.Operands.{seed_of}
-use Rattle.dsa_lines.specs.declared.operations.LineOp.{LineOp}
-use Rattle.dsa_lines.specs.declared.operations.LineOp.TheVariants as line_op
+use Rattle.dsa_operations.specs.declared.listed_op.ListedOp.{ListedOp}
+use Rattle.dsa_operations.specs.declared.listed_op.ListedOp.TheVariants as either
 use Rattle.dsa_lines.specs.declared.options.Options.{Options}
 
 -- no option has been read yet
@@ -38,14 +38,14 @@ seed_flag (Given value) = 0
 seed_flag (At address) = 0x010000
 
 -- the flags of the line of this operation: for a checksum, also that of its seed
-abbrev pub line_flags : LineOp → ℕ → Bool → ℕ
-line_flags (line_op.Descriptor op) carried check = flags_with carried check
-line_flags (line_op.Checksum op) carried check = bit_or (flags_with carried check) (seed_flag (seed_of op))
+abbrev pub line_flags : ListedOp → ℕ → Bool → ℕ
+line_flags (either.Descriptor op) carried check = flags_with carried check
+line_flags (either.Checksum op) carried check = bit_or (flags_with carried check) (seed_flag (seed_of op))
 
 -- the fields of this operation: its owner's PASID and privilege, its flags, the address of its record, its size and its
 -- interrupt handle
-abbrev pub fields_by : LineOp → ℕ → Bool → (flags record_at size int_handle : ℕ) → OperationFields
-fields_by (line_op.Descriptor op) pasid privileged flags record_at size int_handle =
+abbrev pub fields_by : ListedOp → ℕ → Bool → (flags record_at size int_handle : ℕ) → OperationFields
+fields_by (either.Descriptor op) pasid privileged flags record_at size int_handle =
     OfDescriptor (record {
       pasid = pasid;
       privileged = privileged;
@@ -55,7 +55,7 @@ fields_by (line_op.Descriptor op) pasid privileged flags record_at size int_hand
       int_handle = int_handle;
       op = op;
     })
-fields_by (line_op.Checksum op) pasid privileged flags record_at size int_handle =
+fields_by (either.Checksum op) pasid privileged flags record_at size int_handle =
     OfChecksum (record {
       pasid = pasid;
       privileged = privileged;
@@ -67,7 +67,7 @@ fields_by (line_op.Checksum op) pasid privileged flags record_at size int_handle
     })
 
 -- the number of an option that the line leaves out is 0
-abbrev pub fields_with : LineOp → ℕ → ℕ → Options → OperationFields
+abbrev pub fields_with : ListedOp → ℕ → ℕ → Options → OperationFields
 fields_with op size record_at o =
     fields_by op (or_zero o.pasid) o.privileged (line_flags op (or_zero o.flags) o.check) record_at size (or_zero o.handle)
 
@@ -76,5 +76,5 @@ abbrev pub carried_flags : ℕ → ℕ
 carried_flags flags = bit_and flags carried_mask
 
 -- `check` is written: the flag check result is set
-abbrev pub checks_result : ℕ → Bool
-checks_result flags = not (bit_and flags check_mask == 0)
+abbrev pub writes_check : ℕ → Bool
+writes_check flags = not (bit_and flags check_mask == 0)

@@ -10,7 +10,7 @@ use Rattle.dsa_operations.specs.OperationFields.{OperationFields}
 use Rattle.dsa_operations.specs.OperationFields.OperationFields.{OfDescriptor, OfChecksum}
 use Rattle.dsa_lines.specs.Words.{Word}
 use Rattle.dsa_lines.specs.Numbers.{hex, pattern_word}
-use Rattle.dsa_lines.specs.Options.{carried_flags, checks_result}
+use Rattle.dsa_lines.specs.Options.{carried_flags, writes_check}
 
 -- an operation that makes no checksum, and its size
 abbrev pub op_words : Op → ℕ → List Word
@@ -53,7 +53,7 @@ abbrev pub option_words : ℕ → Bool → ℕ → ℕ → List Word
 option_words pasid privileged flags int_handle =
     number_option (codes "pasid") pasid
     ++ (name_option (codes "privileged") privileged
-    ++ (name_option (codes "check") (checks_result flags)
+    ++ (name_option (codes "check") (writes_check flags)
     ++ (number_option (codes "flags") (carried_flags flags)
     ++ number_option (codes "handle") int_handle)))
 

@@ -45,12 +45,12 @@ TextSpells text fs = all_fields (lines_of text) ≡ Some fs
 abbrev pub text_line : OperationFields → List ℕ
 text_line f = line_text f ++ 10 ∷ []
 
--- ---- for private clauses
+-- how many bytes come before the first that is c
+abbrev pub before : ℕ → List ℕ → ℕ
+before c [] = 0
+before c (x ∷ xs) = if x == c then 0 else suc (before c xs)
 
--- how many bytes come before the first newline
-abbrev pub line_len : List ℕ → ℕ
-line_len [] = 0
-line_len (c ∷ cs) = if c == 10 then 0 else suc (line_len cs)
+-- ---- for private clauses
 
 -- the lines after a newline
 abbrev pub lines_after : List ℕ → List (List ℕ)

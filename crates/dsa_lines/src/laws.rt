@@ -58,7 +58,8 @@ pub fn one_text_one_list()
         fs ≡ map operation_fields os }
 {}
 
-/// The canonical text of listed fields, with a mark for each or with none, spells them and the barriers that were marked.
+/// The canonical text of listed fields, with a mark for each or with none, spells them and the barriers that were
+/// marked.
 pub fn canonical_text_spells()
     ensures { CanonicalTextSpells }
 {}

@@ -31,9 +31,9 @@ pub use laws::{
     one_mark_each, one_marked_spelling, one_text_one_list, spells_one, text_spells_one,
 };
 pub use line::Line;
+pub use lines::before;
 pub use list_line::operation_bytes;
-pub use numbers::{number_of, size_of};
-pub use operations::LineOp;
+pub use numbers::{number_of, numeral, size_of};
 pub use portal::disassemble_portal;
 pub use portal_laws::{
     one_portal_shown, one_portal_text, portal_text_is_read, portal_text_is_recorded,

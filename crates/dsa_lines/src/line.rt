@@ -6,9 +6,8 @@ ghost use Rattle.dsa_descriptor.specs.Spelling.{spelling};
 ghost use Rattle.dsa_operations.specs.OperationFields.{fields_spelling, operation_fields};
 ghost use Rattle.dsa_lines.specs.Views.{view};
 
-use crate::operations::LineOp;
 use dsa_descriptor::Op;
-use dsa_operations::{Operation, checksum_bytes};
+use dsa_operations::{ListedOp, Operation, checksum_bytes};
 
 /// The fields of a line, which need not be those of a listed operation.
 #[derive(Clone, Copy)]
@@ -26,7 +25,7 @@ pub struct Line {
     /// The interrupt handle.
     pub int_handle: u16,
     /// The operation.
-    pub op: LineOp,
+    pub op: ListedOp,
 }
 
 impl Line {
@@ -42,7 +41,7 @@ impl Line {
                 record_at: descriptor.record_at,
                 size: descriptor.size,
                 int_handle: descriptor.int_handle,
-                op: LineOp::Descriptor(descriptor.op),
+                op: ListedOp::Descriptor(descriptor.op),
             },
             Operation::Checksum(checksum) => Line {
                 pasid: checksum.pasid,
@@ -51,7 +50,7 @@ impl Line {
                 record_at: checksum.record_at,
                 size: checksum.size,
                 int_handle: checksum.int_handle,
-                op: LineOp::Checksum(checksum.op),
+                op: ListedOp::Checksum(checksum.op),
             },
         }
     }
@@ -110,8 +109,8 @@ impl Line {
         ensures { result ≡ fields_spelling (view self.now) }
     {
         match &self.op {
-            LineOp::Descriptor(op) => self.descriptor_bytes(op),
-            LineOp::Checksum(op) => checksum_bytes(
+            ListedOp::Descriptor(op) => self.descriptor_bytes(op),
+            ListedOp::Checksum(op) => checksum_bytes(
                 self.pasid,
                 self.privileged,
                 self.flags,

@@ -5,7 +5,7 @@ ghost use Rattle.dsa_lines.specs.Numbers.{numeral, number_of, pattern_of, scaled
 
 /// The number that the digits write in the base.
 #[tactic(auto, unfolding(crate::specs::Numbers::numeral_after))]
-fn numeral(digits: &[u8], base: u32) -> Option<u64>
+pub fn numeral(digits: &[u8], base: u32) -> Option<u64>
     requires low { 2 ≤ base }
     requires high { base ≤ 16 }
     ensures { result ≡ numeral base digits.now }

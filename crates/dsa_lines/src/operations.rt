@@ -8,16 +8,7 @@ use crate::fault::{Expected, Stop};
 use crate::reading::{after, count_at, named, number_at, pattern_at};
 use crate::words::next_word;
 use dsa_descriptor::Op;
-use dsa_operations::{ChecksumOp, Seed};
-
-/// The operation of a line.
-#[derive(Clone, Copy)]
-pub enum LineOp {
-    /// That of a descriptor.
-    Descriptor(Op),
-    /// One that makes a checksum.
-    Checksum(ChecksumOp),
-}
+use dsa_operations::{ChecksumOp, ListedOp, Seed};
 
 /// A size in bytes, and what comes after it.
 #[tactic(auto, unfolding(crate::specs::Grammar::size_at))]
@@ -31,7 +22,7 @@ fn size_at(text: &[u8]) -> Result<(u32, &[u8]), Stop>
 
 /// A move, after its name.
 #[tactic(auto, unfolding(crate::specs::Grammar::move_at))]
-fn move_at(text: &[u8]) -> Result<(LineOp, u32, &[u8]), Stop>
+fn move_at(text: &[u8]) -> Result<(ListedOp, u32, &[u8]), Stop>
     ensures { Gives (λ x. (x.0, x.1, words_of x.2.now)) result (move_at (words_of text.now)) }
 {
     let (src, rest) = number_at(text, u64::MAX, Expected::Number)?;
@@ -39,12 +30,12 @@ fn move_at(text: &[u8]) -> Result<(LineOp, u32, &[u8]), Stop>
     let (dst, rest) = number_at(rest, u64::MAX, Expected::Number)?;
     let rest = after(rest, b",", Expected::Comma)?;
     let (size, rest) = size_at(rest)?;
-    Ok((LineOp::Descriptor(Op::Move { src, dst }), size, rest))
+    Ok((ListedOp::Descriptor(Op::Move { src, dst }), size, rest))
 }
 
 /// A fill, after its name.
 #[tactic(auto, unfolding(crate::specs::Grammar::fill_at))]
-fn fill_at(text: &[u8]) -> Result<(LineOp, u32, &[u8]), Stop>
+fn fill_at(text: &[u8]) -> Result<(ListedOp, u32, &[u8]), Stop>
     ensures { Gives (λ x. (x.0, x.1, words_of x.2.now)) result (fill_at (words_of text.now)) }
 {
     let (dst, rest) = number_at(text, u64::MAX, Expected::Number)?;
@@ -53,7 +44,7 @@ fn fill_at(text: &[u8]) -> Result<(LineOp, u32, &[u8]), Stop>
     let rest = after(rest, b",", Expected::Comma)?;
     let (size, rest) = size_at(rest)?;
     let op = Op::Fill { pattern, dst };
-    Ok((LineOp::Descriptor(op), size, rest))
+    Ok((ListedOp::Descriptor(op), size, rest))
 }
 
 /// The size and the expected result of a comparison.
@@ -70,7 +61,7 @@ fn expected_at(text: &[u8]) -> Result<(u32, u8, &[u8]), Stop>
 
 /// A comparison with a second region.
 #[tactic(auto, unfolding(crate::specs::Grammar::compare_region_at))]
-fn compare_region_at(src: u64, text: &[u8]) -> Result<(LineOp, u32, &[u8]), Stop>
+fn compare_region_at(src: u64, text: &[u8]) -> Result<(ListedOp, u32, &[u8]), Stop>
     ensures { Gives
         (λ x. (x.0, x.1, words_of x.2.now)) result (compare_region_at src (words_of text.now)) }
 {
@@ -81,12 +72,12 @@ fn compare_region_at(src: u64, text: &[u8]) -> Result<(LineOp, u32, &[u8]), Stop
         src2,
         expected,
     };
-    Ok((LineOp::Descriptor(op), size, rest))
+    Ok((ListedOp::Descriptor(op), size, rest))
 }
 
 /// A comparison with a pattern, after the word `pattern`.
 #[tactic(auto, unfolding(crate::specs::Grammar::compare_pattern_at))]
-fn compare_pattern_at(src: u64, text: &[u8]) -> Result<(LineOp, u32, &[u8]), Stop>
+fn compare_pattern_at(src: u64, text: &[u8]) -> Result<(ListedOp, u32, &[u8]), Stop>
     ensures { Gives
         (λ x. (x.0, x.1, words_of x.2.now)) result (compare_pattern_at src (words_of text.now)) }
 {
@@ -97,12 +88,12 @@ fn compare_pattern_at(src: u64, text: &[u8]) -> Result<(LineOp, u32, &[u8]), Sto
         pattern,
         expected,
     };
-    Ok((LineOp::Descriptor(op), size, rest))
+    Ok((ListedOp::Descriptor(op), size, rest))
 }
 
 /// A comparison, after its name.
 #[tactic(auto, unfolding(crate::specs::Grammar::compare_at))]
-fn compare_at(text: &[u8]) -> Result<(LineOp, u32, &[u8]), Stop>
+fn compare_at(text: &[u8]) -> Result<(ListedOp, u32, &[u8]), Stop>
     ensures { Gives (λ x. (x.0, x.1, words_of x.2.now)) result (compare_at (words_of text.now)) }
 {
     let (src, rest) = number_at(text, u64::MAX, Expected::Number)?;
@@ -115,7 +106,7 @@ fn compare_at(text: &[u8]) -> Result<(LineOp, u32, &[u8]), Stop>
 
 /// A delta, after its name.
 #[tactic(auto, unfolding(crate::specs::Grammar::delta_at))]
-fn delta_at(text: &[u8]) -> Result<(LineOp, u32, &[u8]), Stop>
+fn delta_at(text: &[u8]) -> Result<(ListedOp, u32, &[u8]), Stop>
     ensures { Gives (λ x. (x.0, x.1, words_of x.2.now)) result (delta_at (words_of text.now)) }
 {
     let (delta, rest) = number_at(text, u64::MAX, Expected::Number)?;
@@ -130,12 +121,12 @@ fn delta_at(text: &[u8]) -> Result<(LineOp, u32, &[u8]), Stop>
         dst,
         record_size,
     };
-    Ok((LineOp::Descriptor(op), size, rest))
+    Ok((ListedOp::Descriptor(op), size, rest))
 }
 
 /// A dualcast, after its name.
 #[tactic(auto, unfolding(crate::specs::Grammar::dualcast_at))]
-fn dualcast_at(text: &[u8]) -> Result<(LineOp, u32, &[u8]), Stop>
+fn dualcast_at(text: &[u8]) -> Result<(ListedOp, u32, &[u8]), Stop>
     ensures { Gives (λ x. (x.0, x.1, words_of x.2.now)) result (dualcast_at (words_of text.now)) }
 {
     let (src, rest) = number_at(text, u64::MAX, Expected::Number)?;
@@ -146,7 +137,7 @@ fn dualcast_at(text: &[u8]) -> Result<(LineOp, u32, &[u8]), Stop>
     let rest = after(rest, b",", Expected::Comma)?;
     let (size, rest) = size_at(rest)?;
     let op = Op::Dualcast { src, dst, dst2 };
-    Ok((LineOp::Descriptor(op), size, rest))
+    Ok((ListedOp::Descriptor(op), size, rest))
 }
 
 /// The value of a seed.
@@ -189,19 +180,23 @@ fn seed_at(text: &[u8]) -> Result<(Seed, &[u8]), Stop>
 
 /// A CRC generation, after its name.
 #[tactic(auto, unfolding(crate::specs::Grammar::crc_at))]
-fn crc_at(text: &[u8]) -> Result<(LineOp, u32, &[u8]), Stop>
+fn crc_at(text: &[u8]) -> Result<(ListedOp, u32, &[u8]), Stop>
     ensures { Gives (λ x. (x.0, x.1, words_of x.2.now)) result (crc_at (words_of text.now)) }
 {
     let (src, rest) = number_at(text, u64::MAX, Expected::Number)?;
     let rest = after(rest, b",", Expected::Comma)?;
     let (size, rest) = size_at(rest)?;
     let (seed, rest) = seed_at(rest)?;
-    Ok((LineOp::Checksum(ChecksumOp::Crc { src, seed }), size, rest))
+    Ok((
+        ListedOp::Checksum(ChecksumOp::Crc { src, seed }),
+        size,
+        rest,
+    ))
 }
 
 /// A copy with CRC, after its name.
 #[tactic(auto, unfolding(crate::specs::Grammar::copy_crc_at))]
-fn copy_crc_at(text: &[u8]) -> Result<(LineOp, u32, &[u8]), Stop>
+fn copy_crc_at(text: &[u8]) -> Result<(ListedOp, u32, &[u8]), Stop>
     ensures { Gives (λ x. (x.0, x.1, words_of x.2.now)) result (copy_crc_at (words_of text.now)) }
 {
     let (src, rest) = number_at(text, u64::MAX, Expected::Number)?;
@@ -211,12 +206,12 @@ fn copy_crc_at(text: &[u8]) -> Result<(LineOp, u32, &[u8]), Stop>
     let (size, rest) = size_at(rest)?;
     let (seed, rest) = seed_at(rest)?;
     let op = ChecksumOp::CopyCrc { src, dst, seed };
-    Ok((LineOp::Checksum(op), size, rest))
+    Ok((ListedOp::Checksum(op), size, rest))
 }
 
 /// The operation that a line begins with, its size, and what comes after it.
 #[tactic(auto, unfolding(crate::specs::Grammar::op_at))]
-pub(crate) fn op_at(text: &[u8]) -> Result<(LineOp, u32, &[u8]), Stop>
+pub(crate) fn op_at(text: &[u8]) -> Result<(ListedOp, u32, &[u8]), Stop>
     ensures { Gives (λ x. (x.0, x.1, words_of x.2.now)) result (op_at (words_of text.now)) }
 {
     let Some((word, rest)) = next_word(text) else {

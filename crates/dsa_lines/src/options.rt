@@ -6,10 +6,9 @@ ghost use Rattle.dsa_lines.specs.Options.{flags_with, line_flags, no_options, or
 ghost use Rattle.dsa_lines.specs.Grammar.{Gives, pasid_at, privileged_at, check_at, flags_at, handle_at, option_at, options_at};
 
 use crate::fault::{Expected, Stop};
-use crate::operations::LineOp;
 use crate::reading::{after, number_at};
 use crate::words::{is_over, next_word};
-use dsa_operations::{ChecksumOp, Seed};
+use dsa_operations::{ChecksumOp, ListedOp, Seed};
 
 /// The flags that each operation of a list has: record address valid, and request record.
 const REQUIRED_FLAGS: u32 = 0x00_000c;
@@ -99,12 +98,12 @@ impl Options {
     }
 
     /// All flags of the line of an operation: for a checksum, that of its seed too.
-    pub(crate) fn line_flags(self, op: LineOp) -> u32
+    pub(crate) fn line_flags(self, op: ListedOp) -> u32
         ensures { result ≡ line_flags op (or_zero self.flags) self.check }
     {
         match op {
-            LineOp::Descriptor(_) => self.flag_bits(),
-            LineOp::Checksum(ChecksumOp::Crc { seed, .. } | ChecksumOp::CopyCrc { seed, .. }) =>
+            ListedOp::Descriptor(_) => self.flag_bits(),
+            ListedOp::Checksum(ChecksumOp::Crc { seed, .. } | ChecksumOp::CopyCrc { seed, .. }) =>
                 self.flag_bits() | seed_flag(seed),
         }
     }

@@ -8,7 +8,7 @@ ghost use Rattle.dsa_lines.specs.declared.fault.TextFault.TheVariants.{Memory};
 ghost use Rattle.dsa_lines.specs.Recordings.{at_end, batch_at, entry_at, fenced_at, recorded_at, line_recorded, batch_bytes, first_owner, owned_bytes, Records, SaysLine, PushesRecorded};
 
 use crate::fault::{Expected, Stop, TextFault};
-use crate::lines::line_len;
+use crate::lines::before;
 use crate::reading::{after, named, number_at, read_line};
 use crate::words::{is_over, next_word};
 use std::alloc::Global;
@@ -198,7 +198,7 @@ pub fn assemble_recording(alloc: Global, text: &[u8]) -> Result<Vec<u8>, TextFau
     let mut rest = text;
     let mut number: usize = 1;
     'lines: loop {
-        let (line, later) = rest.split_at(line_len(rest));
+        let (line, later) = rest.split_at(before(rest, b'\n'));
         pending = push_recorded(&mut bytes, pending, line, number)?;
         let [_newline, next @ ..] = later else {
             push_pending(&mut bytes, pending, &[0; 4])?;

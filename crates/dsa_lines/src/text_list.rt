@@ -11,7 +11,7 @@ ghost use Rattle.dsa_lines.specs.TextLists.{Gathers, IsFirstTextFault, IsTextFau
 ghost use Rattle.dsa_lines.specs.Texts.{TextSpells, lines_of};
 
 use crate::fault::TextFault;
-use crate::lines::line_len;
+use crate::lines::before;
 use crate::list_line::{ListLine, list_line};
 use dsa_descriptor::{ListFault, kept_marks, read_plain};
 use dsa_operations::{Operation, OperationList};
@@ -113,7 +113,7 @@ pub(crate) fn gather<'a>(
     let mut rest = text;
     let mut number: usize = 1;
     'lines: loop {
-        let (line, after) = rest.split_at(line_len(rest));
+        let (line, after) = rest.split_at(before(rest, b'\n'));
         pending = push_line(&mut gathered, line, number, keep_fences, pending)?;
         let [_newline, next @ ..] = after else {
             return Ok(gathered);

@@ -5,15 +5,14 @@ ghost use Rattle.dsa_descriptor.specs.declared.op.Op.TheVariants.{Move, Fill, Co
 ghost use Rattle.dsa_operations.specs.declared.checksum_op.ChecksumOp.TheVariants.{Crc, CopyCrc};
 ghost use Rattle.dsa_operations.specs.OperationFields.{operation_fields};
 ghost use Rattle.dsa_lines.specs.Numbers.{hex, pattern_word};
-ghost use Rattle.dsa_lines.specs.Options.{carried_flags, checks_result};
+ghost use Rattle.dsa_lines.specs.Options.{carried_flags, writes_check};
 ghost use Rattle.dsa_lines.specs.Text.{text_of, tail_text, spaced, op_words, checksum_words, seed_words, operation_words, later_words, number_option, name_option, line_text};
 ghost use Rattle.dsa_lines.specs.Views.{view};
 
 use crate::line::Line;
-use crate::operations::LineOp;
 use crate::options::{CARRIED_FLAGS, CHECK_RESULT};
 use dsa_descriptor::Op;
-use dsa_operations::{ChecksumOp, Operation, Seed};
+use dsa_operations::{ChecksumOp, ListedOp, Operation, Seed};
 use std::alloc::{AllocError, Global};
 
 /// The text of a move.
@@ -266,8 +265,8 @@ fn fields_text(alloc: Global, fields: &Line) -> Result<String, AllocError>
     ensures { IfOk result (λ s. string_bytes s ≡ text_of (operation_words (view fields.now))) }
 {
     match &fields.op {
-        LineOp::Descriptor(op) => op_text(alloc, op, fields.size),
-        LineOp::Checksum(op) => checksum_text(alloc, op, fields.size),
+        ListedOp::Descriptor(op) => op_text(alloc, op, fields.size),
+        ListedOp::Checksum(op) => checksum_text(alloc, op, fields.size),
     }
 }
 

@@ -5,6 +5,7 @@ pub mod Data
 pub mod Profile
 pub mod ProfileProps
 pub mod Places
+pub mod Listed
 pub mod Spelling
 pub mod Faults
 pub mod OperationFields

@@ -1,29 +1,23 @@
 -- Operations of a list: their spelling, what they read and write, and when two of them conflict.
 use Rattle.std.specs.Prelude.{ℕ, List}
 use Rattle.dsa_descriptor.specs.declared.span.Span.{Span}
-use Rattle.dsa_descriptor.specs.Descriptors.{fields}
 use Rattle.dsa_ranges.specs.Pieces.{Kind, PieceConflictAt, kind_of}
-use Rattle.dsa_ranges.specs.Ranges.{read_spans, written_spans}
 use Rattle.dsa_operations.specs.declared.operation.Operation.{Operation}
 use Rattle.dsa_operations.specs.declared.operation.Operation.TheVariants.{Descriptor, Checksum}
-use Rattle.dsa_operations.specs.Checksums.{checksum_fields}
-use Rattle.dsa_operations.specs.Data.{checksum_reads, checksum_writes}
 use Rattle.dsa_operations.specs.Faults.{OperationKeeps}
-use Rattle.dsa_operations.specs.OperationFields.{fields_spelling, operation_fields}
+use Rattle.dsa_operations.specs.OperationFields.{fields_reads, fields_spelling, fields_writes, operation_fields}
 
 -- the 64 bytes of an operation (specification 341204, descriptor format)
 abbrev pub spelling_of : Operation → List ℕ
 spelling_of operation = fields_spelling (operation_fields operation)
 
--- all that an operation reads (specification 341204, operations)
+-- all that an operation reads
 abbrev pub reads_of : Operation → List Span
-reads_of (Descriptor d) = read_spans (fields d)
-reads_of (Checksum c) = checksum_reads (checksum_fields c)
+reads_of operation = fields_reads (operation_fields operation)
 
--- all that it writes, its completion record first (specification 341204, operations)
+-- all that it writes, its completion record first
 abbrev pub writes_of : Operation → List Span
-writes_of (Descriptor d) = written_spans (fields d)
-writes_of (Checksum c) = checksum_writes (checksum_fields c)
+writes_of operation = fields_writes (operation_fields operation)
 
 -- the operations at two places of a list conflict: some address is written by one of the two and read or written by the
 -- other (this project's choice, as for descriptors)

@@ -13,6 +13,11 @@ use Rattle.dsa_operations.specs.Data.{data_of, sources, targets}
 use Rattle.dsa_operations.specs.Fields.{ChecksumFields}
 use Rattle.dsa_operations.specs.Operands.{has_flag, is_in_memory, seed_of}
 
+-- the flags of a checksum that change what it does: 0x010000, its seed is read from memory, and 0x020000 and 0x040000, which
+-- checksum it is (specification 341204, CRC generation)
+abbrev pub checksum_flags : ℕ
+checksum_flags = 0x070000
+
 -- 0x0001, fence; 0x0010, interrupt; 0x0040; 0x0080, check result; and the bits 19 to 23 (this project's choice, as for
 -- descriptors; the bits 16 to 18 are flags of a checksum)
 abbrev pub refused_flags : ℕ

@@ -1,12 +1,12 @@
 //! The operations that make a checksum.
 
-ghost use Rattle.std.specs.Prelude.{◌≡◌, ◌∷◌, [], ◌↔◌, IsTrue};
+ghost use Rattle.std.specs.Prelude.{◌≡◌, ◌++◌, ◌↔◌, IsTrue};
 ghost use Rattle.std.specs.List.{AllByRecursion};
 ghost use Rattle.dsa_descriptor.specs.declared.span.Span.{Span};
 ghost use Rattle.dsa_descriptor.specs.Spans.{ApartFrom, IsAddressable};
 
 use arrayvec::ArrayVec;
-use dsa_descriptor::{Span, are_addressable, record_span};
+use dsa_descriptor::{Span, are_addressable, one_span, record_span, two_spans};
 use dsa_ranges::meets_some;
 
 /// How many bytes a seed in memory has.
@@ -37,21 +37,13 @@ pub(crate) fn is_apart_from(span: Span, spans: &[Span]) -> bool
     !meets_some(span, spans)
 }
 
-/// One region.
-fn one(span: Span) -> ArrayVec<Span, 2>
-    ensures { result.items ≡ span ∷ [] }
+/// All regions of both.
+pub(crate) fn both(first: ArrayVec<Span, 2>, second: ArrayVec<Span, 2>) -> ArrayVec<Span, 4>
+    ensures { result.items ≡ first.items ++ second.items }
 {
     let mut spans = ArrayVec::new();
-    spans.push(span);
-    spans
-}
-
-/// Two regions.
-fn two(first: Span, second: Span) -> ArrayVec<Span, 2>
-    ensures { result.items ≡ first ∷ second ∷ [] }
-{
-    let mut spans = one(first);
-    spans.push(second);
+    spans.try_extend_from_slice(first.as_slice()).unwrap();
+    spans.try_extend_from_slice(second.as_slice()).unwrap();
     spans
 }
 
@@ -143,8 +135,8 @@ impl ChecksumOp {
     {
         let source = Span::of(self.source_field(), size);
         match self.seed() {
-            Seed::Given(_) => one(source),
-            Seed::At(address) => two(source, Span::of(address, SEED_LEN)),
+            Seed::Given(_) => one_span(source),
+            Seed::At(address) => two_spans(source, Span::of(address, SEED_LEN)),
         }
     }
 
@@ -154,19 +146,15 @@ impl ChecksumOp {
     {
         match *self {
             ChecksumOp::Crc { .. } => ArrayVec::new(),
-            ChecksumOp::CopyCrc { dst, .. } => one(Span::of(dst, size)),
+            ChecksumOp::CopyCrc { dst, .. } => one_span(Span::of(dst, size)),
         }
     }
 
     /// All data of the operation.
-    fn data(&self, size: u32) -> ArrayVec<Span, 4>
+    pub(crate) fn data(&self, size: u32) -> ArrayVec<Span, 4>
         ensures { result.items ≡ data_of self.now size }
     {
-        let (sources, targets) = (self.sources(size), self.targets(size));
-        let mut spans = ArrayVec::new();
-        spans.try_extend_from_slice(sources.as_slice()).unwrap();
-        spans.try_extend_from_slice(targets.as_slice()).unwrap();
-        spans
+        both(self.sources(size), self.targets(size))
     }
 
     /// Whether the data doesn't go past 2^64.

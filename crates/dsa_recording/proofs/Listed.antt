@@ -23,24 +23,24 @@ use Rattle.dsa_audit.specs.declared.member.Member.{Member}
 use Rattle.dsa_audit.specs.declared.member.Member.TheVariants.{Known, Unknown}
 use Rattle.dsa_operations.specs.declared.checksum_op.ChecksumOp.{ChecksumOp}
 use Rattle.dsa_operations.specs.declared.checksum_op.ChecksumOp.TheVariants.{Crc, CopyCrc}
+use Rattle.dsa_operations.specs.declared.listed_op.ListedOp.{ListedOp}
+use Rattle.dsa_operations.specs.declared.listed_op.ListedOp.TheVariants as listed
 use Rattle.dsa_operations.specs.declared.operation.Operation.{Operation as AnyOperation}
 use Rattle.dsa_operations.specs.declared.operation.Operation.TheVariants.{Descriptor, Checksum}
 use Rattle.dsa_operations.specs.Checksums.{checksum_fields}
 use Rattle.dsa_operations.specs.Fields.{ChecksumFields}
+use Rattle.dsa_operations.specs.Listed.{either_op, listed_op, listed_sources, listed_targets}
 use Rattle.dsa_operations.specs.Operands as checksums
 use Rattle.dsa_operations.specs.Operations.{spelling_of, reads_of, writes_of}
 use Rattle.dsa_operations.specs.Places.{checksum_at}
 use Rattle.dsa_operations.specs.Profile.{IsListedChecksum}
 use Rattle.dsa_operations.specs.Spelling.{checksum_spelling}
 use Rattle.dsa_operations.proofs.Spelt.{Fits, Stands, code-le, flags_there, listed_fits, op_there, stands}
-use Rattle.dsa_lines.specs.declared.operations.LineOp.{LineOp}
-use Rattle.dsa_lines.specs.declared.operations.LineOp.TheVariants as line_op
 use Rattle.dsa_recording.specs.declared.further.Further.{Further}
 use Rattle.dsa_recording.specs.declared.member.Aspect.TheVariants.{Whole}
 use Rattle.dsa_recording.specs.Entries.{entry_reads, entry_writes, records_of, Applies, IsMember}
 use Rattle.dsa_recording.specs.Furthers.{checksum_or, further_at, other_at}
-use Rattle.dsa_recording.specs.Listings.{either_op, listed_op}
-use Rattle.dsa_recording.proofs.EntryOps.{op_sources, op_targets, entry_reads_by, entry_targets_by}
+use Rattle.dsa_recording.proofs.EntryOps.{entry_reads_by, entry_targets_by}
 
 -- one span more
 with_one : (xs ys : List Span) (r : Span) → IsAddressable r → AllByRecursion IsAddressable (xs ++ ys) → AllByRecursion IsAddressable (xs ++ r ∷ ys)
@@ -61,7 +61,7 @@ blank_code = refl
 
 -- ---- an entry that says what a list may have
 
-record Says (e : List ℕ) (op : LineOp) (size record_at : ℕ) : Type 0 where
+record Says (e : List ℕ) (op : ListedOp) (size record_at : ℕ) : Type 0 where
   op_said : listed_op e ≡ Some op
   code_said : 1 < code_at e
   required : bit_and (flags_at e) required_flags ≡ required_flags
@@ -69,26 +69,26 @@ record Says (e : List ℕ) (op : LineOp) (size record_at : ℕ) : Type 0 where
   record_said : u64_at 8 e ≡ record_at
   size_positive : 0 < size
   record_addressable : IsAddressable (record_span record_at)
-  data_addressable : AllByRecursion IsAddressable (op_sources op size ++ op_targets op size)
+  data_addressable : AllByRecursion IsAddressable (listed_sources op size ++ listed_targets op size)
 
-reads : (e : List ℕ) (op : LineOp) (size record_at : ℕ) → Says e op size record_at → entry_reads e ≡ op_sources op size
-reads e op size record_at says = entry_reads_by e op says.op_said ∙ ap (op_sources op) says.size_said
+reads : (e : List ℕ) (op : ListedOp) (size record_at : ℕ) → Says e op size record_at → entry_reads e ≡ listed_sources op size
+reads e op size record_at says = entry_reads_by e op says.op_said ∙ ap (listed_sources op) says.size_said
 
-writes : (e : List ℕ) (op : LineOp) (size record_at : ℕ) → Says e op size record_at → entry_writes e ≡ record_span record_at ∷ op_targets op size
+writes : (e : List ℕ) (op : ListedOp) (size record_at : ℕ) → Says e op size record_at → entry_writes e ≡ record_span record_at ∷ listed_targets op size
 writes e op size record_at says =
     let records : records_of e ≡ record_span record_at ∷ [] = records_by (flags_at e) (u64_at 8 e) record_at says.record_said says.required in
-    λ i. records i ++ (entry_targets_by e op says.op_said ∙ ap (op_targets op) says.size_said) i
+    λ i. records i ++ (entry_targets_by e op says.op_said ∙ ap (listed_targets op) says.size_said) i
 
-not_further : (o : Option Op) (c : Option ChecksumOp) (size : ℕ) (other : Option Further) (op : LineOp) → either_op o c ≡ Some op → o ≡ None → checksum_or c size other ≡ None → ⊥
+not_further : (o : Option Op) (c : Option ChecksumOp) (size : ℕ) (other : Option Further) (op : ListedOp) → either_op o c ≡ Some op → o ≡ None → checksum_or c size other ≡ None → ⊥
 not_further (Some o) c size other op is none further = absurd cc
 not_further None (Some c) size other op is none further = absurd cc
 not_further None None size other op is none further = absurd cc
 
-not_unknown : (e : List ℕ) (op : LineOp) → listed_op e ≡ Some op → op_at e ≡ None → further_at e ≡ None → ⊥
+not_unknown : (e : List ℕ) (op : ListedOp) → listed_op e ≡ Some op → op_at e ≡ None → further_at e ≡ None → ⊥
 unfolding further_at
 not_unknown e op is none further = not_further (op_at e) (checksum_at e) (u32_at 32 e) (other_at e) op is none further
 
-none : (e : List ℕ) (op : LineOp) (size record_at : ℕ) (head : List ℕ) → Says e op size record_at → AgreeOnOwner head e → (why : Unseen) → Applies head e why → ⊥
+none : (e : List ℕ) (op : ListedOp) (size record_at : ℕ) (head : List ℕ) → Says e op size record_at → AgreeOnOwner head e → (why : Unseen) → Applies head e why → ⊥
 none e op size record_at head says agree Blank applies =
     let code : code_at e ≡ 0 = ap code_at applies ∙ blank_code in
     let above : 1 < code_at e = says.code_said in
@@ -103,12 +103,12 @@ none e op size record_at head says agree Empty applies =
     let positive : 0 < size = says.size_positive in
     absurd (omega (arith, there, positive, applies.2))
 none e op size record_at head says agree Wrap applies =
-    let all : entry_reads e ++ entry_writes e ≡ op_sources op size ++ record_span record_at ∷ op_targets op size =
+    let all : entry_reads e ++ entry_writes e ≡ listed_sources op size ++ record_span record_at ∷ listed_targets op size =
     λ i. reads e op size record_at says i ++ writes e op size record_at says i in
-    applies (subst (AllByRecursion IsAddressable) (sym all) (with_one (op_sources op size) (op_targets op size) (record_span record_at) says.record_addressable says.data_addressable))
+    applies (subst (AllByRecursion IsAddressable) (sym all) (with_one (listed_sources op size) (listed_targets op size) (record_span record_at) says.record_addressable says.data_addressable))
 
-known : (e : List ℕ) (op : LineOp) (size record_at : ℕ) (head : List ℕ) (m : Member) → Says e op size record_at → AgreeOnOwner head e → IsMember Whole head e m
-    → (t : Touched) × (m ≡ Known t) × (t.reads.items ≡ op_sources op size) × (t.writes.items ≡ record_span record_at ∷ op_targets op size)
+known : (e : List ℕ) (op : ListedOp) (size record_at : ℕ) (head : List ℕ) (m : Member) → Says e op size record_at → AgreeOnOwner head e → IsMember Whole head e m
+    → (t : Touched) × (m ≡ Known t) × (t.reads.items ≡ listed_sources op size) × (t.writes.items ≡ record_span record_at ∷ listed_targets op size)
 known e op size record_at head (Known t) says agree is = (t, refl, is.1 ∙ reads e op size record_at says, is.2 ∙ writes e op size record_at says)
 known e op size record_at head (Unknown why) says agree is = absurd (none e op size record_at head says agree why is.applies)
 
@@ -122,7 +122,7 @@ above_one (ComparePattern src pattern expected) = omega arith
 above_one (ApplyDelta delta dst record_size) = omega arith
 above_one (Dualcast src dst dst2) = omega arith
 
-descriptor_says : (f : Fields) → IsListed f → Says (spelling f) (line_op.Descriptor f.op) f.size f.record_at
+descriptor_says : (f : Fields) → IsListed f → Says (spelling f) (listed.Descriptor f.op) f.size f.record_at
 descriptor_says f h =
     let fits : f.flags < 2 ^ 24 = h.flags_fit in
     let there : u32_at 4 (spelling f) ≡ f.flags + code_of f.op * 2 ^ 24 = (spelling_stands f h).operation_there in
@@ -146,7 +146,7 @@ unfolding op_at
 no_op_there (Crc src seed) e code = rw code refl
 no_op_there (CopyCrc src dst seed) e code = rw code refl
 
-checksum_says : (f : ChecksumFields) → IsListedChecksum f → Says (checksum_spelling f) (line_op.Checksum f.op) f.size f.record_at
+checksum_says : (f : ChecksumFields) → IsListedChecksum f → Says (checksum_spelling f) (listed.Checksum f.op) f.size f.record_at
 checksum_says f h =
     let e : List ℕ = checksum_spelling f in
     let fits : Fits f = listed_fits f h in
@@ -168,5 +168,5 @@ checksum_says f h =
 
 pub listed_are_known : (o : AnyOperation) (head : List ℕ) (m : Member) → AgreeOnOwner head (spelling_of o) → IsMember Whole head (spelling_of o) m
     → (t : Touched) × (m ≡ Known t) × (t.reads.items ≡ reads_of o) × (t.writes.items ≡ writes_of o)
-listed_are_known (Descriptor d) head m agree is = let f : Fields = fields d in known (spelling f) (line_op.Descriptor f.op) f.size f.record_at head m (descriptor_says f d.listed) agree is
-listed_are_known (Checksum c) head m agree is = let f : ChecksumFields = checksum_fields c in known (checksum_spelling f) (line_op.Checksum f.op) f.size f.record_at head m (checksum_says f c.listed) agree is
+listed_are_known (Descriptor d) head m agree is = let f : Fields = fields d in known (spelling f) (listed.Descriptor f.op) f.size f.record_at head m (descriptor_says f d.listed) agree is
+listed_are_known (Checksum c) head m agree is = let f : ChecksumFields = checksum_fields c in known (checksum_spelling f) (listed.Checksum f.op) f.size f.record_at head m (checksum_says f c.listed) agree is

@@ -13,7 +13,8 @@ use Rattle.dsa_descriptor.specs.Places.{code_at, flags_at}
 use Rattle.dsa_operations.specs.declared.operation.Operation.{Operation as AnyOperation}
 use Rattle.dsa_operations.specs.OperationFields.{OperationFields, AreListedFields, operation_fields}
 use Rattle.dsa_operations.proofs.Same.{listed_of}
-use Rattle.dsa_lines.specs.declared.operations.LineOp.{LineOp}
+use Rattle.dsa_operations.specs.declared.listed_op.ListedOp.{ListedOp}
+use Rattle.dsa_operations.specs.Listed.{listed_op}
 use Rattle.dsa_lines.specs.Text.{line_text}
 use Rattle.dsa_lines.specs.Texts.{lines_of, line_fields, all_fields, TextSpells}
 use Rattle.dsa_lines.specs.Words.{words_of}
@@ -23,7 +24,7 @@ use Rattle.dsa_lines.proofs.ReadAgain.{line_before, nothing, digits_line, commen
 use Rattle.dsa_ranges.specs.declared.span.Touched.{Touched}
 use Rattle.dsa_recording.specs.declared.stream.Submission.{Submission}
 use Rattle.dsa_recording.specs.declared.submission.Audited.{Audited}
-use Rattle.dsa_recording.specs.Listings.{listed_op, stand_in, barrier_for, fence_line, is_apart_from_added, left_out, operation_line, plain_words, known_line, member_line, member_lines, submission_lines, left_words, left_count, listing_text, op_in_list, expects_bit, known_operation, member_operation, member_operations, listed_operations}
+use Rattle.dsa_recording.specs.Listings.{stand_in, barrier_for, fence_line, is_apart_from_added, left_out, operation_line, plain_words, known_line, member_line, member_lines, submission_lines, left_words, left_count, listing_text, op_in_list, expects_bit, known_operation, member_operation, member_operations, listed_operations}
 use Rattle.dsa_recording.specs.Furthers.{code_name}
 use Rattle.dsa_recording.specs.EntryWords.{in_brackets, operation_words}
 use Rattle.dsa_recording.specs.Totals.{member_count}
@@ -88,7 +89,7 @@ left_out_reads number why e =
     let comment : is_line (codes " entry " ++ (decimal number ++ (codes ", " ++ why))) ≡ true = line_append (codes " entry ") (decimal number ++ (codes ", " ++ why)) refl place in
     record { is = comment; spells = comment_read (codes " entry " ++ (decimal number ++ (codes ", " ++ why))) comment }
 
-operation_reads : (number : ℕ) (e : List ℕ) (op : LineOp) → AreListedFields (stand_in number e op) → Reads (operation_line number e op) (stand_in number e op ∷ [])
+operation_reads : (number : ℕ) (e : List ℕ) (op : ListedOp) → AreListedFields (stand_in number e op) → Reads (operation_line number e op) (stand_in number e op ∷ [])
 operation_reads number e op listed =
     let f : OperationFields = stand_in number e op in
     let comment : is_line (codes " entry " ++ decimal number) ≡ true = line_append (codes " entry ") (decimal number) refl (decimal_line number) in
@@ -98,7 +99,7 @@ operation_reads number e op listed =
     }
 
 -- whether it is apart from added records, and whether a list has what it expects
-apart_reads : (apart fits : Bool) (number : ℕ) (e : List ℕ) (op : LineOp) → AllByRecursion AreListedFields (cond apart (cond fits (stand_in number e op ∷ []) []) [])
+apart_reads : (apart fits : Bool) (number : ℕ) (e : List ℕ) (op : ListedOp) → AllByRecursion AreListedFields (cond apart (cond fits (stand_in number e op ∷ []) []) [])
     → Reads
     (cond apart (cond fits (operation_line number e op) (left_out number (codes "left out: its check expects another result than 0 or 1")))
     (left_out number (codes "left out: it touches addresses that this list keeps for records")))
@@ -107,7 +108,7 @@ apart_reads true true number e op all = operation_reads number e op all.0
 apart_reads true false number e op all = left_out_reads number (codes "left out: its check expects another result than 0 or 1") refl
 apart_reads false fits number e op all = left_out_reads number (codes "left out: it touches addresses that this list keeps for records") refl
 
-known_reads : (count number : ℕ) (e : List ℕ) (t : Touched) (op : Option LineOp) → AllByRecursion AreListedFields (known_operation count number e t op)
+known_reads : (count number : ℕ) (e : List ℕ) (t : Touched) (op : Option ListedOp) → AllByRecursion AreListedFields (known_operation count number e t op)
     → Reads (known_line count number e t op) (known_operation count number e t op)
 known_reads count number e t None all = left_out_reads number (plain_words (code_at e)) (plain_is_line (code_at e))
 known_reads count number e t (Some op) all = apart_reads (is_apart_from_added count t) (expects_bit (op_in_list op (flags_at e))) number e op all

@@ -13,11 +13,13 @@ use Rattle.dsa_descriptor.specs.Spans.{InSpan, InSome}
 use Rattle.dsa_ranges.specs.declared.span.Touched.{Touched}
 use Rattle.dsa_ranges.specs.Ranges.{SpansConflict, WritesInto}
 use Rattle.dsa_audit.specs.Members.{TouchedConflict}
-use Rattle.dsa_lines.specs.declared.operations.LineOp.{LineOp}
-use Rattle.dsa_lines.specs.declared.operations.LineOp.TheVariants as line_op
+use Rattle.dsa_operations.specs.declared.listed_op.ListedOp.{ListedOp}
+use Rattle.dsa_operations.specs.declared.listed_op.ListedOp.TheVariants as listed
+use Rattle.dsa_operations.specs.Listed.{listed_op, listed_sources, listed_targets}
+use Rattle.dsa_operations.specs.OperationFields.{fields_reads, fields_writes}
 use Rattle.dsa_lines.specs.Options.{fields_by}
-use Rattle.dsa_recording.specs.Listings.{listed_op, record_in_list, expecting_zero, flags_in_list, is_checked, requested_records, records_from, stand_in, is_clear, fields_reads, fields_writes, Does, StandInsConflict}
-use Rattle.dsa_recording.proofs.EntryOps.{op_sources, op_targets, entry_reads_by, entry_targets_by}
+use Rattle.dsa_recording.specs.Listings.{record_in_list, expecting_zero, flags_in_list, is_checked, requested_records, records_from, stand_in, is_clear, Does, StandInsConflict}
+use Rattle.dsa_recording.proofs.EntryOps.{entry_reads_by, entry_targets_by}
 
 -- ---- spans that are clear of the added records
 
@@ -116,41 +118,41 @@ adds_by true k own ss = record { had = λ a there. inl there; has = λ a there. 
 adds_by false k own ss = record { had = λ a there. turned k a ss there; has = λ a there. inr there }
 
 -- what the list has reads and writes the same, also if it expects another result
-listed_reads : (checked : Bool) (op : LineOp) (pasid : ℕ) (privileged : Bool) (flags record_at size : ℕ)
-    → fields_reads (fields_by (if checked then op else expecting_zero op) pasid privileged flags record_at size 0) ≡ op_sources op size
-listed_reads true (line_op.Descriptor op) pasid privileged flags record_at size = refl
-listed_reads true (line_op.Checksum op) pasid privileged flags record_at size = refl
-listed_reads false (line_op.Descriptor (Move src dst)) pasid privileged flags record_at size = refl
-listed_reads false (line_op.Descriptor (Fill pattern dst)) pasid privileged flags record_at size = refl
-listed_reads false (line_op.Descriptor (Compare src src2 expected)) pasid privileged flags record_at size = refl
-listed_reads false (line_op.Descriptor (ComparePattern src pattern expected)) pasid privileged flags record_at size = refl
-listed_reads false (line_op.Descriptor (ApplyDelta delta dst record_size)) pasid privileged flags record_at size = refl
-listed_reads false (line_op.Descriptor (Dualcast src dst dst2)) pasid privileged flags record_at size = refl
-listed_reads false (line_op.Checksum op) pasid privileged flags record_at size = refl
+listed_reads : (checked : Bool) (op : ListedOp) (pasid : ℕ) (privileged : Bool) (flags record_at size : ℕ)
+    → fields_reads (fields_by (if checked then op else expecting_zero op) pasid privileged flags record_at size 0) ≡ listed_sources op size
+listed_reads true (listed.Descriptor op) pasid privileged flags record_at size = refl
+listed_reads true (listed.Checksum op) pasid privileged flags record_at size = refl
+listed_reads false (listed.Descriptor (Move src dst)) pasid privileged flags record_at size = refl
+listed_reads false (listed.Descriptor (Fill pattern dst)) pasid privileged flags record_at size = refl
+listed_reads false (listed.Descriptor (Compare src src2 expected)) pasid privileged flags record_at size = refl
+listed_reads false (listed.Descriptor (ComparePattern src pattern expected)) pasid privileged flags record_at size = refl
+listed_reads false (listed.Descriptor (ApplyDelta delta dst record_size)) pasid privileged flags record_at size = refl
+listed_reads false (listed.Descriptor (Dualcast src dst dst2)) pasid privileged flags record_at size = refl
+listed_reads false (listed.Checksum op) pasid privileged flags record_at size = refl
 
-listed_writes : (checked : Bool) (op : LineOp) (pasid : ℕ) (privileged : Bool) (flags record_at size : ℕ)
-    → fields_writes (fields_by (if checked then op else expecting_zero op) pasid privileged flags record_at size 0) ≡ record_span record_at ∷ op_targets op size
-listed_writes true (line_op.Descriptor op) pasid privileged flags record_at size = refl
-listed_writes true (line_op.Checksum op) pasid privileged flags record_at size = refl
-listed_writes false (line_op.Descriptor (Move src dst)) pasid privileged flags record_at size = refl
-listed_writes false (line_op.Descriptor (Fill pattern dst)) pasid privileged flags record_at size = refl
-listed_writes false (line_op.Descriptor (Compare src src2 expected)) pasid privileged flags record_at size = refl
-listed_writes false (line_op.Descriptor (ComparePattern src pattern expected)) pasid privileged flags record_at size = refl
-listed_writes false (line_op.Descriptor (ApplyDelta delta dst record_size)) pasid privileged flags record_at size = refl
-listed_writes false (line_op.Descriptor (Dualcast src dst dst2)) pasid privileged flags record_at size = refl
-listed_writes false (line_op.Checksum op) pasid privileged flags record_at size = refl
+listed_writes : (checked : Bool) (op : ListedOp) (pasid : ℕ) (privileged : Bool) (flags record_at size : ℕ)
+    → fields_writes (fields_by (if checked then op else expecting_zero op) pasid privileged flags record_at size 0) ≡ record_span record_at ∷ listed_targets op size
+listed_writes true (listed.Descriptor op) pasid privileged flags record_at size = refl
+listed_writes true (listed.Checksum op) pasid privileged flags record_at size = refl
+listed_writes false (listed.Descriptor (Move src dst)) pasid privileged flags record_at size = refl
+listed_writes false (listed.Descriptor (Fill pattern dst)) pasid privileged flags record_at size = refl
+listed_writes false (listed.Descriptor (Compare src src2 expected)) pasid privileged flags record_at size = refl
+listed_writes false (listed.Descriptor (ComparePattern src pattern expected)) pasid privileged flags record_at size = refl
+listed_writes false (listed.Descriptor (ApplyDelta delta dst record_size)) pasid privileged flags record_at size = refl
+listed_writes false (listed.Descriptor (Dualcast src dst dst2)) pasid privileged flags record_at size = refl
+listed_writes false (listed.Checksum op) pasid privileged flags record_at size = refl
 
-writes : (k : ℕ) (e : List ℕ) (t : Touched) (op : LineOp) → Does e t → listed_op e ≡ Some op → Adds k (fields_writes (stand_in k e op)) t.writes.items
+writes : (k : ℕ) (e : List ℕ) (t : Touched) (op : ListedOp) → Does e t → listed_op e ≡ Some op → Adds k (fields_writes (stand_in k e op)) t.writes.items
 writes k e t op does is =
     let size : ℕ = u32_at 32 e in
     let flags : ℕ = flags_at e in
-    let whole : t.writes.items ≡ requested_records e ++ op_targets op size = does.writes ∙ ap (λ (ss : List Span). requested_records e ++ ss) (entry_targets_by e op is) in
-    let there : fields_writes (stand_in k e op) ≡ record_span (record_in_list k e) ∷ op_targets op size =
+    let whole : t.writes.items ≡ requested_records e ++ listed_targets op size = does.writes ∙ ap (λ (ss : List Span). requested_records e ++ ss) (entry_targets_by e op is) in
+    let there : fields_writes (stand_in k e op) ≡ record_span (record_in_list k e) ∷ listed_targets op size =
     listed_writes (is_checked op flags) op (pasid_at e) (privileged_at e) (flags_in_list op flags) (record_in_list k e) size in
-    subst (λ (ss : List Span). Adds k ss t.writes.items) (sym there) (subst (Adds k (record_span (record_in_list k e) ∷ op_targets op size)) (sym whole)
-    (adds_by (bit_and flags required_flags == required_flags) k (u64_at 8 e) (op_targets op size)))
+    subst (λ (ss : List Span). Adds k ss t.writes.items) (sym there) (subst (Adds k (record_span (record_in_list k e) ∷ listed_targets op size)) (sym whole)
+    (adds_by (bit_and flags required_flags == required_flags) k (u64_at 8 e) (listed_targets op size)))
 
-reads : (k : ℕ) (e : List ℕ) (t : Touched) (op : LineOp) → Does e t → listed_op e ≡ Some op → fields_reads (stand_in k e op) ≡ t.reads.items
+reads : (k : ℕ) (e : List ℕ) (t : Touched) (op : ListedOp) → Does e t → listed_op e ≡ Some op → fields_reads (stand_in k e op) ≡ t.reads.items
 reads k e t op does is =
     let flags : ℕ = flags_at e in
     listed_reads (is_checked op flags) op (pasid_at e) (privileged_at e) (flags_in_list op flags) (record_in_list k e) (u32_at 32 e)

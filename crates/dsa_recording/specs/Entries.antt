@@ -80,7 +80,7 @@ entry_writes e = records_of e ++ entry_targets e
 abbrev pub action_of : List ℕ → Action
 action_of e =
     record {
-      is_listed = is_some (op_at e);
+      may_repeat = is_some (op_at e);
       words =
           bit_and (u64_at 0 e) 0xffffffe2ffffffff ∷ u64_at 16 e ∷ u64_at 24 e ∷ u64_at 32 e ∷ u64_at 40 e ∷ u64_at 48 e
           ∷ u64_at 56 e ∷ [];

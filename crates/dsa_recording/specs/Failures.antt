@@ -4,6 +4,7 @@ use Rattle.std.specs.Prelude.{ℕ, ◌≡◌, ◌<◌, Bool, true, false, not, �
 use Rattle.dsa_descriptor.specs.declared.op.Op.{Op}
 use Rattle.dsa_descriptor.specs.declared.op.Op.TheVariants.{Move, Fill, Compare, ComparePattern, ApplyDelta, Dualcast}
 use Rattle.dsa_descriptor.specs.Places.{flags_at, code_at, op_at}
+use Rattle.dsa_descriptor.specs.Profile.{checks_result}
 use Rattle.dsa_audit.specs.declared.member.Member.{Member}
 use Rattle.dsa_audit.specs.declared.member.Member.TheVariants.{Known, Unknown}
 use Rattle.dsa_audit.specs.declared.member.Unseen.TheVariants.{Operation}
@@ -11,10 +12,6 @@ use Rattle.dsa_recording.specs.declared.further.Further.{Further}
 use Rattle.dsa_recording.specs.declared.further.Further.TheVariants.{Drain, CreateDelta, TranslationFetch, Checksum, DifCheck, DifInsert, DifStrip, DifUpdate, CacheFlush}
 use Rattle.dsa_recording.specs.Furthers.{further_at}
 use Rattle.dsa_recording.specs.declared.assumptions.Assumptions.{Assumptions}
-
--- the flag 0x0080 is set: a compare is checked against the expected result
-abbrev pub checks_result : ℕ → Bool
-checks_result flags = bit_and flags 0x80 == 0x80
 
 -- a delta that is created and checked may end with status 2, a check of fields with 9; a drain is refused in a batch, and
 -- of a fetch of translations it is not certain, so they can fail too; a no-op (none of these) does not

@@ -1,27 +1,24 @@
 -- A recording as a list of operations to plan (this project's choice): a line for each member, in the order of the entries.
 use Rattle.std.specs.Prelude.{ℕ, suc, ◌≡◌, ◌≢◌, ◌+◌, ◌*◌, ◌^◌, ◌<◌, ◌≤◌, ◌-◌, ◌&&◌, ◌||◌, ◌==◌, ◌↔◌, nat_le, bit_and, bit_or, Bool, true, List, [], ◌∷◌, ◌++◌, drop, length, slice_index_or, codes, decimal, map, Option, Some, None, if◌then◌else◌}
 use Rattle.std.specs.List.{list_all, sum_by}
-use Rattle.dsa_descriptor.specs.declared.op.Op.{Op}
 use Rattle.dsa_descriptor.specs.declared.op.Op.TheVariants.{Move, Fill, Compare, ComparePattern, ApplyDelta, Dualcast}
 use Rattle.dsa_descriptor.specs.declared.span.Span.{Span}
-use Rattle.dsa_descriptor.specs.Places.{u32_at, u64_at, flags_at, code_at, op_at, pasid_at, privileged_at}
+use Rattle.dsa_descriptor.specs.Places.{u32_at, u64_at, flags_at, code_at, pasid_at, privileged_at}
 use Rattle.dsa_descriptor.specs.Data.{record_span}
-use Rattle.dsa_descriptor.specs.Profile.{required_flags}
+use Rattle.dsa_descriptor.specs.Profile.{checks_result, required_flags}
 use Rattle.dsa_ranges.specs.declared.span.Touched.{Touched}
-use Rattle.dsa_ranges.specs.Ranges.{SpansConflict, read_spans, written_spans}
+use Rattle.dsa_ranges.specs.Ranges.{SpansConflict}
 use Rattle.dsa_audit.specs.declared.member.Member.{Member}
 use Rattle.dsa_audit.specs.declared.member.Member.TheVariants.{Known, Unknown}
 use Rattle.dsa_audit.specs.declared.needless.FenceUse.{FenceUse}
 use Rattle.dsa_audit.specs.declared.needless.FenceUse.TheVariants as fence_use
 use Rattle.dsa_audit.specs.Members.{TouchedConflict}
-use Rattle.dsa_operations.specs.declared.checksum_op.ChecksumOp.{ChecksumOp}
+use Rattle.dsa_operations.specs.declared.listed_op.ListedOp.{ListedOp}
+use Rattle.dsa_operations.specs.declared.listed_op.ListedOp.TheVariants as listed
 use Rattle.dsa_operations.specs.declared.operation.Operation.{Operation}
-use Rattle.dsa_operations.specs.Data.{checksum_reads, checksum_writes}
-use Rattle.dsa_operations.specs.OperationFields.{OperationFields, operation_fields}
-use Rattle.dsa_operations.specs.OperationFields.OperationFields.{OfDescriptor, OfChecksum}
-use Rattle.dsa_operations.specs.Places.{checksum_at}
-use Rattle.dsa_lines.specs.declared.operations.LineOp.{LineOp}
-use Rattle.dsa_lines.specs.declared.operations.LineOp.TheVariants as line_op
+use Rattle.dsa_operations.specs.Listed.{listed_op}
+use Rattle.dsa_operations.specs.OperationFields.{OperationFields, fields_reads, fields_writes, operation_fields}
+use Rattle.dsa_operations.specs.Profile.{checksum_flags}
 use Rattle.dsa_lines.specs.Options.{fields_by}
 use Rattle.dsa_lines.specs.Text.{line_text}
 use Rattle.dsa_lines.specs.Texts.{TextSpells}
@@ -29,21 +26,10 @@ use Rattle.dsa_recording.specs.declared.stream.Submission.{Submission}
 use Rattle.dsa_recording.specs.declared.submission.Audited.{Audited}
 use Rattle.dsa_recording.specs.Entries.{entry_reads, entry_targets}
 use Rattle.dsa_recording.specs.EntryWords.{operation_words}
-use Rattle.dsa_recording.specs.Failures.{checks_result}
 use Rattle.dsa_recording.specs.Totals.{member_count}
 use Rattle.dsa_recording.specs.Words.{unseen_words}
 
 -- ---- the operation of an entry
-
--- the operation of a descriptor if there is one, else the checksum
-abbrev pub either_op : Option Op → Option ChecksumOp → Option LineOp
-either_op (Some op) checksum = Some (line_op.Descriptor op)
-either_op None (Some op) = Some (line_op.Checksum op)
-either_op None None = None
-
--- the operation that an entry names, if a list may have it
-abbrev pub listed_op : List ℕ → Option LineOp
-listed_op e = either_op (op_at e) (checksum_at e)
 
 -- each operation of a list has a completion record. If an entry requests none, it gets one from this address on, which
 -- lies between the addresses of programs and those of a kernel
@@ -55,54 +41,53 @@ abbrev pub record_in_list : ℕ → List ℕ → ℕ
 record_in_list number e =
     if bit_and (flags_at e) required_flags == required_flags then u64_at 8 e else records_from + 32 * number
 
--- the flags of an entry that change what its operation does: check result of a compare; of a checksum, that its seed is read
--- from memory, 0x010000, and those that say which checksum it is, 0x020000 and 0x040000 (specification 341204, flags and CRC
--- generation)
-abbrev pub kept_flags : LineOp → ℕ
-kept_flags (line_op.Descriptor (Move src dst)) = 0
-kept_flags (line_op.Descriptor (Fill pattern dst)) = 0
-kept_flags (line_op.Descriptor (Compare src src2 expected)) = 0x80
-kept_flags (line_op.Descriptor (ComparePattern src pattern expected)) = 0x80
-kept_flags (line_op.Descriptor (ApplyDelta delta dst record_size)) = 0
-kept_flags (line_op.Descriptor (Dualcast src dst dst2)) = 0
-kept_flags (line_op.Checksum op) = 0x070000
+-- the flags of an entry that change what its operation does: check result of a compare, and those of a checksum (specification
+-- 341204, flags and CRC generation)
+abbrev pub kept_flags : ListedOp → ℕ
+kept_flags (listed.Descriptor (Move src dst)) = 0
+kept_flags (listed.Descriptor (Fill pattern dst)) = 0
+kept_flags (listed.Descriptor (Compare src src2 expected)) = 0x80
+kept_flags (listed.Descriptor (ComparePattern src pattern expected)) = 0x80
+kept_flags (listed.Descriptor (ApplyDelta delta dst record_size)) = 0
+kept_flags (listed.Descriptor (Dualcast src dst dst2)) = 0
+kept_flags (listed.Checksum op) = checksum_flags
 
 -- the flags that the list has: those that it requires, and of the entry's these
-abbrev pub flags_in_list : LineOp → ℕ → ℕ
+abbrev pub flags_in_list : ListedOp → ℕ → ℕ
 flags_in_list op flags = bit_or required_flags (bit_and flags (kept_flags op))
 
 -- the operation is a compare with the flag check result, whose status says whether it found what it expects
-abbrev pub is_checked : LineOp → ℕ → Bool
+abbrev pub is_checked : ListedOp → ℕ → Bool
 is_checked op flags = checks_result (flags_in_list op flags)
 
 -- the operation with the expected result 0
-abbrev pub expecting_zero : LineOp → LineOp
-expecting_zero (line_op.Descriptor (Move src dst)) = line_op.Descriptor (Move src dst)
-expecting_zero (line_op.Descriptor (Fill pattern dst)) = line_op.Descriptor (Fill pattern dst)
-expecting_zero (line_op.Descriptor (Compare src src2 expected)) = line_op.Descriptor (Compare src src2 0)
-expecting_zero (line_op.Descriptor (ComparePattern src pattern expected)) = line_op.Descriptor (ComparePattern src pattern 0)
-expecting_zero (line_op.Descriptor (ApplyDelta delta dst record_size)) = line_op.Descriptor (ApplyDelta delta dst record_size)
-expecting_zero (line_op.Descriptor (Dualcast src dst dst2)) = line_op.Descriptor (Dualcast src dst dst2)
-expecting_zero (line_op.Checksum op) = line_op.Checksum op
+abbrev pub expecting_zero : ListedOp → ListedOp
+expecting_zero (listed.Descriptor (Move src dst)) = listed.Descriptor (Move src dst)
+expecting_zero (listed.Descriptor (Fill pattern dst)) = listed.Descriptor (Fill pattern dst)
+expecting_zero (listed.Descriptor (Compare src src2 expected)) = listed.Descriptor (Compare src src2 0)
+expecting_zero (listed.Descriptor (ComparePattern src pattern expected)) = listed.Descriptor (ComparePattern src pattern 0)
+expecting_zero (listed.Descriptor (ApplyDelta delta dst record_size)) = listed.Descriptor (ApplyDelta delta dst record_size)
+expecting_zero (listed.Descriptor (Dualcast src dst dst2)) = listed.Descriptor (Dualcast src dst dst2)
+expecting_zero (listed.Checksum op) = listed.Checksum op
 
 -- the operation as the list has it. Nothing rests on a result that is not checked, and a recorded one may be none that a list
 -- has, so it is 0
-abbrev pub op_in_list : LineOp → ℕ → LineOp
+abbrev pub op_in_list : ListedOp → ℕ → ListedOp
 op_in_list op flags = if is_checked op flags then op else expecting_zero op
 
 -- a list has no other expected results than 0 and 1
-abbrev pub expects_bit : LineOp → Bool
-expects_bit (line_op.Descriptor (Move src dst)) = true
-expects_bit (line_op.Descriptor (Fill pattern dst)) = true
-expects_bit (line_op.Descriptor (Compare src src2 expected)) = nat_le expected 1
-expects_bit (line_op.Descriptor (ComparePattern src pattern expected)) = nat_le expected 1
-expects_bit (line_op.Descriptor (ApplyDelta delta dst record_size)) = true
-expects_bit (line_op.Descriptor (Dualcast src dst dst2)) = true
-expects_bit (line_op.Checksum op) = true
+abbrev pub expects_bit : ListedOp → Bool
+expects_bit (listed.Descriptor (Move src dst)) = true
+expects_bit (listed.Descriptor (Fill pattern dst)) = true
+expects_bit (listed.Descriptor (Compare src src2 expected)) = nat_le expected 1
+expects_bit (listed.Descriptor (ComparePattern src pattern expected)) = nat_le expected 1
+expects_bit (listed.Descriptor (ApplyDelta delta dst record_size)) = true
+expects_bit (listed.Descriptor (Dualcast src dst dst2)) = true
+expects_bit (listed.Checksum op) = true
 
 -- what the list has for the entry of this number: its operation, size and owner, with that record, these flags and no
 -- interrupt handle
-abbrev pub stand_in : ℕ → List ℕ → LineOp → OperationFields
+abbrev pub stand_in : ℕ → List ℕ → ListedOp → OperationFields
 stand_in number e op =
     fields_by (op_in_list op (flags_at e)) (pasid_at e) (privileged_at e) (flags_in_list op (flags_at e)) (record_in_list number e) (u32_at 32 e) 0
 
@@ -121,7 +106,7 @@ abbrev pub left_out : ℕ → List ℕ → List ℕ
 left_out number why = codes "# entry " ++ (decimal number ++ (codes ", " ++ why))
 
 -- an operation, and after it the number of its entry
-abbrev pub operation_line : ℕ → List ℕ → LineOp → List ℕ
+abbrev pub operation_line : ℕ → List ℕ → ListedOp → List ℕ
 operation_line number e op = line_text (stand_in number e op) ++ (codes " # entry " ++ decimal number)
 
 -- a no-op has no line, nor has an operation that no list may have
@@ -129,7 +114,7 @@ abbrev pub plain_words : ℕ → List ℕ
 plain_words code = if code == 0 then codes "left out: a no-op" else codes "left out: " ++ operation_words code
 
 -- an entry that is looked at has the line of its operation, if a list has that and it is apart from added records
-abbrev pub known_line : ℕ → ℕ → List ℕ → Touched → Option LineOp → List ℕ
+abbrev pub known_line : ℕ → ℕ → List ℕ → Touched → Option ListedOp → List ℕ
 known_line count number e t None = left_out number (plain_words (code_at e))
 known_line count number e t (Some op) =
     if is_apart_from_added count t
@@ -175,7 +160,7 @@ submission_lines es (s ∷ ss) (a ∷ audits) = member_lines es s.first a.member
 -- ---- its operations
 
 -- that of an entry that is looked at is in the list if it has one that a list has and is apart from added records
-abbrev pub known_operation : ℕ → ℕ → List ℕ → Touched → Option LineOp → List OperationFields
+abbrev pub known_operation : ℕ → ℕ → List ℕ → Touched → Option ListedOp → List OperationFields
 known_operation count number e t None = []
 known_operation count number e t (Some op) =
     if is_apart_from_added count t
@@ -232,16 +217,6 @@ pub record Does (e : List ℕ) (t : Touched) : Type 0 where
   pub reads : t.reads.items ≡ entry_reads e
   pub writes : t.writes.items ≡ requested_records e ++ entry_targets e
 
--- all that an operation with these fields reads (specification 341204, operations)
-abbrev pub fields_reads : OperationFields → List Span
-fields_reads (OfDescriptor f) = read_spans f
-fields_reads (OfChecksum f) = checksum_reads f
-
--- all that it writes, its completion record first
-abbrev pub fields_writes : OperationFields → List Span
-fields_writes (OfDescriptor f) = written_spans f
-fields_writes (OfChecksum f) = checksum_writes f
-
 -- some address is written by one of the two and read or written by the other (this project's choice, as for the operations
 -- of a list)
 abbrev pub FieldsConflict : OperationFields → OperationFields → Type 0
@@ -250,7 +225,7 @@ FieldsConflict f g = SpansConflict (fields_reads f) (fields_writes f) (fields_re
 -- two operations of the list conflict exactly if their entries do
 abbrev pub StandInsConflict : Type 0
 StandInsConflict =
-    (count m n : ℕ) (d e : List ℕ) (t u : Touched) (o p : LineOp) → m ≢ n → m < count → n < count →
+    (count m n : ℕ) (d e : List ℕ) (t u : Touched) (o p : ListedOp) → m ≢ n → m < count → n < count →
     Does d t → Does e u → listed_op d ≡ Some o → listed_op e ≡ Some p → is_apart_from_added count t ≡ true → is_apart_from_added count u ≡ true →
     FieldsConflict (stand_in m d o) (stand_in n e p) ↔ TouchedConflict t u
 

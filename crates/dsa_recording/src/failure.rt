@@ -2,8 +2,9 @@
 
 ghost use Rattle.std.specs.Prelude.{◌≡◌, length, IfOk};
 ghost use Rattle.dsa_descriptor.specs.Places.{flags_at, code_at, op_at};
+ghost use Rattle.dsa_descriptor.specs.Profile.{checks_result};
 ghost use Rattle.dsa_recording.specs.Furthers.{further_at};
-ghost use Rattle.dsa_recording.specs.Failures.{checks_result, can_further_fail, can_op_fail, can_fault, can_fail, AreFallible};
+ghost use Rattle.dsa_recording.specs.Failures.{can_further_fail, can_op_fail, can_fault, can_fail, AreFallible};
 
 use crate::assumptions::Assumptions;
 use crate::entry::Header;

@@ -1,11 +1,11 @@
 //! Operations beyond the six of a descriptor: what they read and write, and their names.
 
-ghost use Rattle.std.specs.Prelude.{◌≡◌, ◌≤◌, ◌∷◌, []};
+ghost use Rattle.std.specs.Prelude.{◌≡◌, ◌≤◌};
 ghost use Rattle.dsa_recording.specs.Furthers.{first_data, second_data, drain_at, create_delta_at, block_at, insert_at, has_whole_fields, on_fields, strip_at, other_at, further_at, read_by, written_by, code_name};
 
 use crate::entry::Header;
 use arrayvec::ArrayVec;
-use dsa_descriptor::{Span, u32_at, u64_at};
+use dsa_descriptor::{Span, one_span, two_spans, u32_at, u64_at};
 use dsa_operations::{ChecksumOp, checksum_at};
 
 /// An operation beyond the six of a descriptor, with all that it reads and writes beside its completion record.
@@ -64,25 +64,6 @@ pub enum Further {
     },
 }
 
-/// A list of one span.
-fn one(span: Span) -> ArrayVec<Span, 2>
-    ensures { result.items ≡ span ∷ [] }
-{
-    let mut spans = ArrayVec::new();
-    spans.push(span);
-    spans
-}
-
-/// A list of two spans.
-fn two(first: Span, second: Span) -> ArrayVec<Span, 2>
-    ensures { result.items ≡ first ∷ second ∷ [] }
-{
-    let mut spans = ArrayVec::new();
-    spans.push(first);
-    spans.push(second);
-    spans
-}
-
 impl Further {
     /// What the operation reads.
     pub fn sources(&self) -> ArrayVec<Span, 2>
@@ -90,11 +71,11 @@ impl Further {
     {
         match *self {
             Further::Drain | Further::TranslationFetch => ArrayVec::new(),
-            Further::CreateDelta { first, second, .. } => two(first, second),
+            Further::CreateDelta { first, second, .. } => two_spans(first, second),
             Further::Checksum { op, size } => op.sources(size),
-            Further::DifCheck { src } | Further::DifInsert { src, .. } => one(src),
-            Further::DifStrip { src, .. } | Further::DifUpdate { src, .. } => one(src),
-            Further::CacheFlush { flushed } => one(flushed),
+            Further::DifCheck { src } | Further::DifInsert { src, .. } => one_span(src),
+            Further::DifStrip { src, .. } | Further::DifUpdate { src, .. } => one_span(src),
+            Further::CacheFlush { flushed } => one_span(flushed),
         }
     }
 
@@ -105,10 +86,10 @@ impl Further {
         match *self {
             Further::Drain | Further::TranslationFetch => ArrayVec::new(),
             Further::DifCheck { .. } | Further::CacheFlush { .. } => ArrayVec::new(),
-            Further::CreateDelta { delta, .. } => one(delta),
+            Further::CreateDelta { delta, .. } => one_span(delta),
             Further::Checksum { op, size } => op.targets(size),
-            Further::DifInsert { dst, .. } => one(dst),
-            Further::DifStrip { dst, .. } | Further::DifUpdate { dst, .. } => one(dst),
+            Further::DifInsert { dst, .. } => one_span(dst),
+            Further::DifStrip { dst, .. } | Further::DifUpdate { dst, .. } => one_span(dst),
         }
     }
 }

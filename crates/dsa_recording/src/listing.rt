@@ -5,7 +5,8 @@ ghost use Rattle.dsa_audit.specs.declared.needless.FenceUse.TheVariants.{NoFence
 ghost use Rattle.std.specs.List.{list_all, sum_by};
 ghost use Rattle.dsa_descriptor.specs.Places.{code_at};
 ghost use Rattle.dsa_lines.specs.Views.{view};
-ghost use Rattle.dsa_recording.specs.Listings.{listed_op, record_in_list, kept_flags, flags_in_list, is_checked, stand_in, is_clear, expecting_zero, op_in_list, expects_bit, is_apart_from_added, left_out, operation_line, plain_words, barrier_for, fence_line, known_line, known_operation, member_line, member_lines, submission_lines, member_operation, member_operations, listed_operations, left_line, listing_text, AreEntries, StandInsConflict, ListingIsRead};
+ghost use Rattle.dsa_operations.specs.Listed.{listed_op};
+ghost use Rattle.dsa_recording.specs.Listings.{record_in_list, kept_flags, flags_in_list, is_checked, stand_in, is_clear, expecting_zero, op_in_list, expects_bit, is_apart_from_added, left_out, operation_line, plain_words, barrier_for, fence_line, known_line, known_operation, member_line, member_lines, submission_lines, member_operation, member_operations, listed_operations, left_line, listing_text, AreEntries, StandInsConflict, ListingIsRead};
 ghost use Rattle.dsa_recording.specs.Totals.{HasSums, member_count};
 
 use crate::entry::{Header, RECORD_REQUESTED};
@@ -15,17 +16,14 @@ use crate::totals::members_in;
 use crate::words::unseen_text;
 use bitflags::Flags;
 use dsa_audit::{FenceUse, Member};
-use dsa_descriptor::{FlagWord, Op, Span, op_at};
-use dsa_lines::{Line, LineOp, line_of_fields};
-use dsa_operations::checksum_at;
+use dsa_descriptor::{FlagWord, Op, Span};
+use dsa_lines::{Line, line_of_fields};
+use dsa_operations::{CHECKSUM_FLAGS, ListedOp};
 use dsa_ranges::Touched;
 use std::alloc::{AllocError, Global};
 
 /// The address of the first record that an entry gets which requests none.
 const RECORDS: u64 = 1 << 62;
-
-/// The flags that a checksum keeps: that its seed is read from memory, and which of the four it is.
-const CHECKSUM_FLAGS: u32 = 0x07_0000;
 
 /// The completion record of an entry in a list.
 fn record_in_list(entry: &[u8; 64], number: usize) -> u64
@@ -77,70 +75,57 @@ fn entry_text(alloc: Global, number: usize) -> Result<String, AllocError>
     format!(in alloc; " # entry {number}")
 }
 
-/// The operation that an entry names, if a list may have it.
-fn listed_op(entry: &[u8; 64]) -> Option<LineOp>
-    ensures { result ≡ listed_op entry.now }
-{
-    if let Some(op) = op_at(entry) {
-        return Some(LineOp::Descriptor(op));
-    }
-    match checksum_at(entry) {
-        Some(op) => Some(LineOp::Checksum(op)),
-        None => None,
-    }
-}
-
 /// The flags of an entry that change what its operation does.
-fn kept_flags(op: LineOp) -> u32
+fn kept_flags(op: ListedOp) -> u32
     ensures { result ≡ kept_flags op }
 {
     match op {
-        LineOp::Descriptor(Op::Compare { .. } | Op::ComparePattern { .. }) =>
+        ListedOp::Descriptor(Op::Compare { .. } | Op::ComparePattern { .. }) =>
             FlagWord::CHECK_RESULT.0,
-        LineOp::Descriptor(Op::Move { .. } | Op::Fill { .. } | Op::Dualcast { .. }) => 0,
-        LineOp::Descriptor(Op::ApplyDelta { .. }) => 0,
-        LineOp::Checksum(_) => CHECKSUM_FLAGS,
+        ListedOp::Descriptor(Op::Move { .. } | Op::Fill { .. } | Op::Dualcast { .. }) => 0,
+        ListedOp::Descriptor(Op::ApplyDelta { .. }) => 0,
+        ListedOp::Checksum(_) => CHECKSUM_FLAGS.0,
     }
 }
 
 /// The flags of the operation that stands for an entry with these flags.
-fn flags_in_list(op: LineOp, flags: FlagWord) -> FlagWord
+fn flags_in_list(op: ListedOp, flags: FlagWord) -> FlagWord
     ensures { result.0 ≡ flags_in_list op flags.0 }
 {
     FlagWord(RECORD_REQUESTED.0 | (flags.0 & kept_flags(op)))
 }
 
 /// The operation with the expected result 0.
-fn expecting_zero(op: LineOp) -> LineOp
+fn expecting_zero(op: ListedOp) -> ListedOp
     ensures { result ≡ expecting_zero op }
 {
     match op {
-        LineOp::Descriptor(Op::Compare { src, src2, .. }) => LineOp::Descriptor(Op::Compare {
+        ListedOp::Descriptor(Op::Compare { src, src2, .. }) => ListedOp::Descriptor(Op::Compare {
             src,
             src2,
             expected: 0,
         }),
-        LineOp::Descriptor(Op::ComparePattern { src, pattern, .. }) => LineOp::Descriptor(
+        ListedOp::Descriptor(Op::ComparePattern { src, pattern, .. }) => ListedOp::Descriptor(
             Op::ComparePattern {
                 src,
                 pattern,
                 expected: 0,
             },
         ),
-        LineOp::Descriptor(Op::Move { .. } | Op::Fill { .. } | Op::Dualcast { .. }) => op,
-        LineOp::Descriptor(Op::ApplyDelta { .. }) | LineOp::Checksum(_) => op,
+        ListedOp::Descriptor(Op::Move { .. } | Op::Fill { .. } | Op::Dualcast { .. }) => op,
+        ListedOp::Descriptor(Op::ApplyDelta { .. }) | ListedOp::Checksum(_) => op,
     }
 }
 
 /// Whether an operation is a compare whose result is checked.
-fn is_checked(op: LineOp, flags: FlagWord) -> bool
+fn is_checked(op: ListedOp, flags: FlagWord) -> bool
     ensures { result ≡ is_checked op flags.0 }
 {
     flags_in_list(op, flags).contains(FlagWord::CHECK_RESULT)
 }
 
 /// The operation of an entry as a list has it: a compare expects 0 unless its result is checked.
-fn op_in_list(op: LineOp, flags: FlagWord) -> LineOp
+fn op_in_list(op: ListedOp, flags: FlagWord) -> ListedOp
     ensures { result ≡ op_in_list op flags.0 }
 {
     if is_checked(op, flags) {
@@ -150,19 +135,19 @@ fn op_in_list(op: LineOp, flags: FlagWord) -> LineOp
 }
 
 /// Whether no other result than 0 or 1 is expected.
-fn expects_bit(op: LineOp) -> bool
+fn expects_bit(op: ListedOp) -> bool
     ensures { result ≡ expects_bit op }
 {
     match op {
-        LineOp::Descriptor(Op::Compare { expected, .. } | Op::ComparePattern { expected, .. }) =>
+        ListedOp::Descriptor(Op::Compare { expected, .. } | Op::ComparePattern { expected, .. }) =>
             expected <= 1,
-        LineOp::Descriptor(Op::Move { .. } | Op::Fill { .. } | Op::Dualcast { .. }) => true,
-        LineOp::Descriptor(Op::ApplyDelta { .. }) | LineOp::Checksum(_) => true,
+        ListedOp::Descriptor(Op::Move { .. } | Op::Fill { .. } | Op::Dualcast { .. }) => true,
+        ListedOp::Descriptor(Op::ApplyDelta { .. }) | ListedOp::Checksum(_) => true,
     }
 }
 
 /// What the list has for an entry with this operation.
-fn stand_in(number: usize, entry: &[u8; 64], op: LineOp) -> Line
+fn stand_in(number: usize, entry: &[u8; 64], op: ListedOp) -> Line
     requires { number < 2 ^ 58 }
     ensures { view result ≡ stand_in number entry.now op }
 {
@@ -188,7 +173,7 @@ fn operation_line(
     alloc: Global,
     number: usize,
     entry: &[u8; 64],
-    op: LineOp,
+    op: ListedOp,
 ) -> Result<String, AllocError>
     requires { number < 2 ^ 58 }
     ensures { IfOk result (λ line. string_bytes line ≡ operation_line number entry.now op) }
@@ -231,7 +216,7 @@ fn known_line(
     ensures { IfOk result (λ line. string_bytes line ≡
         known_line count number entry.now touched.now (listed_op entry.now)) }
 {
-    let Some(op) = listed_op(entry) else {
+    let Some(op) = ListedOp::named(entry) else {
         return plain_line(alloc, number, entry);
     };
     if !is_apart_from_added(count, touched) {
@@ -349,7 +334,7 @@ fn known_count(count: usize, entry: &[u8; 64], touched: &Touched) -> usize
         length (known_operation count number entry.now touched.now (listed_op entry.now)) }
     ensures few { result ≤ 1 }
 {
-    let Some(op) = listed_op(entry) else {
+    let Some(op) = ListedOp::named(entry) else {
         return 0;
     };
     if !is_apart_from_added(count, touched) {

@@ -25,7 +25,7 @@ lines-preserved c =
     let h = c.in_ok-pending.ensures in
     let line = c.split_at.result.0.now in
     let back = c.split_at.result.1.now in
-    let lines = more_lines c.lines.rest.now line back c.line_len.result c.line_len.ensures.value c.split_at.ensures.front c.split_at.ensures.back c.in-len1-up.len_at_least in
+    let lines = more_lines c.lines.rest.now line back c.before-in-lines.result c.before-in-lines.ensures.value c.split_at.ensures.front c.split_at.ensures.back c.in-len1-up.len_at_least in
     let one : length (i.before ++ line ∷ []) ≡ length i.before + 1 = length-append i.before (line ∷ []) in
     record {
       before = i.before ++ line ∷ [];
@@ -34,7 +34,7 @@ lines-preserved c =
       spelled = recorded_more i.before line i.said h.0 i.spelled h.1;
       lines = i.lines ∙ ap (λ (ls : List (List ℕ)). i.before ++ ls) lines ∙ sym (append_assoc i.before (line ∷ []) _);
       number = omega (arith, one, i.number);
-      room = omega (arith, one, i.room, next_shorter c.lines.rest.now back c.line_len.result c.split_at.ensures.back c.in-len1-up.len_at_least);
+      room = omega (arith, one, i.room, next_shorter c.lines.rest.now back c.before-in-lines.result c.split_at.ensures.back c.in-len1-up.len_at_least);
     }
 
 pub returns-in_default : goal.returns-in_default
@@ -44,7 +44,7 @@ returns-in_default c =
     let line = c.split_at.result.0.now in
     let back = c.split_at.result.1.now in
     let none : length back < 1 = omega arith in
-    let lines = last_line c.lines.rest.now line back c.line_len.result c.line_len.ensures.value c.split_at.ensures.front c.split_at.ensures.back none in (
+    let lines = last_line c.lines.rest.now line back c.before-in-lines.result c.before-in-lines.ensures.value c.split_at.ensures.front c.split_at.ensures.back none in (
       i.said ++ h.0,
       ap all_recorded (i.lines ∙ ap (λ (ls : List (List ℕ)). i.before ++ ls) lines) ∙ recorded_more i.before line i.said h.0 i.spelled h.1,
       at_last c.push_recorded.new.bytes.items c.push_pending.new.bytes.items c.in_ok-pending.pending (i.said ++ h.0) c.in_ok-push_pending.ensures (h.2 i.said i.bytes),
@@ -56,7 +56,7 @@ returns-in_err-pending c =
     let p = err_from_is_err_and c.from_residual.result c.from_residual.ensures.1 in
     let line = c.split_at.result.0.now in
     let back = c.split_at.result.1.now in
-    let lines = first_line c.lines.rest.now line back c.line_len.result c.line_len.ensures.value c.split_at.ensures.front c.split_at.ensures.back in
+    let lines = first_line c.lines.rest.now line back c.before-in-lines.result c.before-in-lines.ensures.value c.split_at.ensures.front c.split_at.ensures.back in
     let leaves : line_recorded (words_of line) ≡ None → LeavesRecordingAt (lines_of c.args.text.now) c.lines.number =
     λ e. record {
       before = i.before;

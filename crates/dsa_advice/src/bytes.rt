@@ -7,7 +7,7 @@ ghost use Rattle.dsa_advice.specs.Refusals.{IsRefusal};
 
 use crate::answer::Answer;
 use dsa_calls::PlanFault;
-use dsa_forms::{BytesFault, bytes_of_input};
+use dsa_forms::bytes_of_input;
 use std::alloc::{AllocError, Global};
 
 /// The bytes of a text, or the refusal, which names the place where there are none, after these words.
@@ -21,18 +21,11 @@ pub fn bytes_or_refusal(
         (λ bytes. SpellsBytes text.now bytes.items)
         (λ a. SpellsNone text.now × IsRefusal Hex a)) }
 {
-    match bytes_of_input(alloc, text) {
+    match bytes_of_input(alloc, text)? {
         Ok(bytes) => Ok(Ok(bytes)),
-        Err(BytesFault::Memory) => Err(AllocError),
-        Err(
-            BytesFault::Digit {
-                line,
-                column,
-                fault,
-            },
-        ) => {
-            let reason = fault.words();
-            let message = format!(in alloc; "{before}line {line}, column {column}: {reason}")?;
+        Err(fault) => {
+            let place = fault.text(alloc, "")?;
+            let message = format!(in alloc; "{before}{place}")?;
             Ok(Err(Answer::fault_with(alloc, PlanFault::Hex, &message)?))
         }
     }

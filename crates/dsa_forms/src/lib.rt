@@ -11,4 +11,4 @@ pub use forms::{
     next_part,
 };
 pub use kinds::{InputKind, has_batch, is_binary, kind_of, lines_are_lines, sample_kinds};
-pub use places::{BytesFault, DigitFault, bytes_of_input};
+pub use places::{BytesFault, bytes_of_input};

@@ -1,16 +1,15 @@
 //! Where a text of bytes leaves its form.
 
-ghost use Rattle.std.specs.Prelude.{◌≡◌, ◌⊎◌, MatchResult};
-ghost use Rattle.dsa_forms.specs.declared.places.BytesFault.TheVariants.{Memory};
+ghost use Rattle.std.specs.Prelude.{IfOk, MatchResult};
 ghost use Rattle.dsa_forms.specs.Forms.{SpellsBytes, SpellsNone};
 
 use crate::forms::{Form, bytes_of_text, first_part, form_of, is_passed, next_part};
 use hex::FromHexError;
-use std::alloc::Global;
+use std::alloc::{AllocError, Global};
 
 /// Why a text spells no bytes.
 #[derive(Clone, Copy)]
-pub enum DigitFault {
+enum DigitFault {
     /// A byte that is neither a digit nor anything else of the text's form.
     Stray,
     /// A line in place of others, which `hexdump` leaves out.
@@ -21,7 +20,7 @@ pub enum DigitFault {
 
 impl DigitFault {
     /// What is said of it.
-    pub fn words(self) -> &'static str {
+    fn words(self) -> &'static str {
         match self {
             DigitFault::Stray => "expected a hexadecimal digit",
             DigitFault::LinesLeftOut => "lines are left out here: use hexdump -v -C",
@@ -30,20 +29,23 @@ impl DigitFault {
     }
 }
 
-/// Why there are no bytes.
+/// Where a text spells no bytes, and why.
 #[derive(Clone, Copy)]
-pub enum BytesFault {
-    /// The text spells none.
-    Digit {
-        /// The line of the fault, from 1 on.
-        line: usize,
-        /// Its column in the line, from 1 on.
-        column: usize,
-        /// What is wrong there.
-        fault: DigitFault,
-    },
-    /// An allocation failed.
-    Memory,
+pub struct BytesFault {
+    /// The line of the fault, from 1 on.
+    line: usize,
+    /// Its column in the line, from 1 on.
+    column: usize,
+    /// What is wrong there.
+    fault: DigitFault,
+}
+
+impl BytesFault {
+    /// The place, then `before`, then what is wrong there.
+    pub fn text(self, alloc: Global, before: &str) -> Result<String, AllocError> {
+        let (line, column, words) = (self.line, self.column, self.fault.words());
+        format!(in alloc; "line {line}, column {column}: {before}{words}")
+    }
 }
 
 /// What a byte is in a text of this form that has no such byte.
@@ -63,7 +65,7 @@ fn first_fault(form: Form, text: &[u8]) -> BytesFault {
         let is_digit = (*byte as char).is_ascii_hexdigit();
         if !is_newline && !is_digit && !is_passed(form, part, *byte) {
             let fault = fault_at(form, *byte);
-            return BytesFault::Digit {
+            return BytesFault {
                 line,
                 column,
                 fault,
@@ -81,28 +83,26 @@ fn first_fault(form: Form, text: &[u8]) -> BytesFault {
             line
         };
     }
-    let fault = DigitFault::WithinByte;
-    BytesFault::Digit {
+    BytesFault {
         line,
         column,
-        fault,
+        fault: DigitFault::WithinByte,
     }
 }
 
-/// The bytes that a text spells in hexadecimal, in one of the forms.
-///
-/// # Errors
-/// The first place at which the text leaves its form, or its end, if that is within a byte; else where memory is refused.
-pub fn bytes_of_input(alloc: Global, text: &[u8]) -> Result<Vec<u8>, BytesFault>
-    ensures { MatchResult result (λ bytes. SpellsBytes text.now bytes.items)
-        (λ fault. (fault ≡ Memory) ⊎ SpellsNone text.now) }
+/// The bytes that a text spells in hexadecimal, in one of the forms; or the first place at which it leaves its form, or
+/// its end, if that is within a byte.
+pub fn bytes_of_input(alloc: Global, text: &[u8]) -> Result<Result<Vec<u8>, BytesFault>, AllocError>
+    ensures { IfOk result
+        (λ read. MatchResult read
+        (λ bytes. SpellsBytes text.now bytes.items) (λ _. SpellsNone text.now)) }
 {
     let Some(form) = form_of(text) else {
-        return Err(first_fault(Form::Plain, text));
+        return Ok(Err(first_fault(Form::Plain, text)));
     };
     match bytes_of_text(alloc, form, text) {
-        Ok(bytes) => Ok(bytes),
-        Err(FromHexError::OutOfMemory) => Err(BytesFault::Memory),
-        Err(_) => Err(first_fault(form, text)),
+        Ok(bytes) => Ok(Ok(bytes)),
+        Err(FromHexError::OutOfMemory) => Err(AllocError),
+        Err(_) => Ok(Err(first_fault(form, text))),
     }
 }

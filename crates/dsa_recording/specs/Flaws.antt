@@ -8,7 +8,7 @@ use Rattle.dsa_recording.specs.declared.flaws.Flaws.{Flaws}
 use Rattle.dsa_recording.specs.Entries.{records_of, entry_reads, entry_targets, entry_writes}
 use Rattle.dsa_recording.specs.Showing.{has_record}
 
--- the memory of a batch's descriptors
+-- the memory of a batch's descriptors, 64 bytes each (specification 341204, batch descriptor)
 abbrev pub list_spans : List ℕ → List Span
 list_spans head = record { first = u64_at 16 head; len = 64 * u32_at 32 head } ∷ []
 

@@ -3,7 +3,7 @@
 ghost use Rattle.dsa_recording.specs.declared.answer.AuditFormat.TheVariants.{Picture, List as Listed};
 ghost use Rattle.std.specs.Prelude.{◌≡◌, ◌≢◌, ◌≤◌, ◌^◌, ◌↔◌, All, length, IfOk, IsTrue};
 ghost use Rattle.dsa_recording.specs.declared.stream.StreamFault.TheVariants.{Memory};
-ghost use Rattle.dsa_recording.specs.Answers.{AnswersFormat, AnswersRecording, AnswersReport, AreNoErrors, ArePlaced, IsAnswerStatus, IsDeniedNothing, IsNoError, IsStatusOf, Judges};
+ghost use Rattle.dsa_recording.specs.Answers.{AnswersFormat, AnswersRecording, AnswersReport, AreNoErrors, ArePlaced, IsAnswerStatus, IsDeniedNothing, IsNoError, IsStatusOf, Judges, Refuses};
 ghost use Rattle.dsa_recording.specs.Freed.{HasAudits};
 ghost use Rattle.dsa_recording.specs.Details.{IsPlaced};
 ghost use Rattle.dsa_recording.specs.Keys.{key_words};
@@ -76,6 +76,20 @@ pub struct AuditAnswer {
     pub status: u8,
     /// The accepted keys that are used; of a refusal, of a picture that is too large and of a list none.
     pub used: Accepted,
+}
+
+impl AuditAnswer {
+    /// The answer where there is no report, for the reason in this text.
+    pub fn refused(alloc: Global, text: String) -> AuditAnswer
+        ensures text { result.text ≡ text }
+        ensures refuses { Refuses result }
+    {
+        AuditAnswer {
+            text,
+            status: 2,
+            used: Accepted::none(alloc),
+        }
+    }
 }
 
 /// Of each submission whether none of its fences is missing.
@@ -221,11 +235,7 @@ fn answer_picture(
 {
     if is_too_large(all, report) {
         let text = too_large_text(alloc, all, report)?;
-        return Ok(AuditAnswer {
-            text,
-            status: 2,
-            used: Accepted::none(alloc),
-        });
+        return Ok(AuditAnswer::refused(alloc, text));
     }
     let picture = draw_report(alloc, all, report, settings, options)?;
     written(alloc, options, all, report, picture)
@@ -334,11 +344,7 @@ pub(crate) fn audit_bytes(
         }
         Err(fault) => {
             let text = fault_text(alloc, 0, bytes, fault)?;
-            Ok(AuditAnswer {
-                text,
-                status: 2,
-                used: Accepted::none(alloc),
-            })
+            Ok(AuditAnswer::refused(alloc, text))
         }
     }
 }

@@ -28,7 +28,7 @@ pub struct Flaws {
 }
 
 /// The memory of a batch's descriptors.
-fn list_spans(head: &[u8; 64]) -> ArrayVec<Span, 3>
+pub fn list_spans(head: &[u8; 64]) -> ArrayVec<Span, 3>
     ensures { result.items ≡ list_spans head.now }
 {
     let mut spans = ArrayVec::new();

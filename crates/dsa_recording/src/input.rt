@@ -2,32 +2,19 @@
 
 ghost use Rattle.std.specs.Prelude.{◌≡◌, IfOk, MatchResult};
 ghost use Rattle.dsa_lines.specs.Texts.{lines_of};
-ghost use Rattle.dsa_recording.specs.Answers.{Refuses};
 ghost use Rattle.dsa_recording.specs.Foreign.{AnswersEntries};
 ghost use Rattle.dsa_forms.specs.Forms.{IsText};
 ghost use Rattle.dsa_recording.specs.Inputs.{AnswersInput, IsInLines, IsRefused, OneRecording, SpellsRecording};
 
-use crate::accepted::Accepted;
 use crate::answer::{AuditAnswer, AuditOptions, audit_bytes};
 use crate::foreign::{find_foreign, foreign_text};
-use dsa_forms::{BytesFault, begins_with_digits, bytes_of_input, form_of, is_text};
+use dsa_forms::{begins_with_digits, bytes_of_input, form_of, is_text};
 use dsa_lines::{Expected, TextFault, assemble_recording};
 use dsa_settings::Settings;
 use std::alloc::{AllocError, Global};
 
 /// The most lines that are named.
 const MOST_NAMED: usize = 20;
-
-/// The answer where there is no recording.
-pub(crate) fn refusal(alloc: Global, text: String) -> AuditAnswer
-    ensures { Refuses result }
-{
-    AuditAnswer {
-        text,
-        status: 2,
-        used: Accepted::none(alloc),
-    }
-}
 
 /// What a recording has at the column where a line leaves the grammar.
 fn expected_words(line: &[u8], column: usize, expected: Expected) -> &'static str {
@@ -108,7 +95,7 @@ fn bytes_of_lines(alloc: Global, text: &[u8]) -> Result<Result<Vec<u8>, AuditAns
         Ok(bytes) => Ok(Ok(bytes)),
         Err(TextFault::Grammar(_, _, _)) => {
             let reason = mistakes_text(alloc, text)?;
-            Ok(Err(refusal(alloc, reason)))
+            Ok(Err(AuditAnswer::refused(alloc, reason)))
         }
         // the lines of a recording are no list, so the first does not come
         Err(TextFault::List(_, _)) | Err(TextFault::Memory) => Err(AllocError),
@@ -123,19 +110,12 @@ fn bytes_of_digits(alloc: Global, text: &[u8]) -> Result<Result<Vec<u8>, AuditAn
         (λ read. MatchResult read
         (λ bytes. SpellsRecording text.now bytes.items) (IsRefused text.now)) }
 {
-    match bytes_of_input(alloc, text) {
+    match bytes_of_input(alloc, text)? {
         Ok(bytes) => Ok(Ok(bytes)),
-        Err(BytesFault::Memory) => Err(AllocError),
-        Err(
-            BytesFault::Digit {
-                line,
-                column,
-                fault,
-            },
-        ) => {
-            let words = fault.words();
-            let reason = format!(in alloc; "line {line}, column {column}: error: {words}\n")?;
-            Ok(Err(refusal(alloc, reason)))
+        Err(fault) => {
+            let mut reason = fault.text(alloc, "error: ")?;
+            reason.push_str("\n")?;
+            Ok(Err(AuditAnswer::refused(alloc, reason)))
         }
     }
 }
@@ -171,7 +151,7 @@ pub fn audit_entries(
     match find_foreign(alloc, bytes)? {
         Some(foreign) => {
             let reason = foreign_text(alloc, foreign)?;
-            Ok(refusal(alloc, reason))
+            Ok(AuditAnswer::refused(alloc, reason))
         }
         None => audit_bytes(alloc, bytes, settings, options),
     }

@@ -5,6 +5,7 @@ ghost use Rattle.std.specs.List.{AllByRecursion};
 ghost use Rattle.dsa_descriptor.specs.Spans.{IsAddressable};
 ghost use Rattle.dsa_descriptor.specs.Places.{op_at};
 ghost use Rattle.dsa_audit.specs.declared.member.Unseen.{Unseen};
+ghost use Rattle.dsa_recording.specs.declared.member.Aspect.TheVariants as aspects;
 ghost use Rattle.dsa_recording.specs.Furthers.{further_at};
 ghost use Rattle.dsa_recording.specs.Entries.{records_of, entry_reads, entry_results, entry_targets, entry_writes, is_checksum, status_records, value_records, Applies, IsFirstReason, IsMember, action_of, reads_in, writes_in};
 ghost use Rattle.dsa_recording.specs.Submissions.{AreMembers};
@@ -44,7 +45,7 @@ const IN_ORDER: [Unseen; 6] = [
 ];
 
 /// The completion record, if the entry has one: it may be written on errors alone.
-pub(crate) fn records_of(entry: &[u8; 64]) -> ArrayVec<Span, 3>
+pub fn records_of(entry: &[u8; 64]) -> ArrayVec<Span, 3>
     ensures value { result.items ≡ records_of entry.now }
     ensures short { length result.items ≤ 1 }
 {
@@ -144,7 +145,7 @@ pub(crate) fn action_of(entry: &[u8; 64]) -> Action
     ensures { result ≡ action_of entry.now }
 {
     Action {
-        is_listed: op_at(entry).is_some(),
+        may_repeat: op_at(entry).is_some(),
         words: [
             u64_at(entry, 0) & UNREQUESTED,
             u64_at(entry, 16),
@@ -264,18 +265,78 @@ pub fn member_of(aspect: Aspect, head: &[u8; 64], entry: &[u8; 64]) -> Member
     }
 }
 
-/// The same of each of the entries.
+/// What is known of an entry in each respect.
+#[derive(Drop)]
+struct Aspects {
+    whole: Member,
+    operands: Member,
+    as_record: Member,
+    as_status: Member,
+}
+
+/// What is known of an entry, whose batch has the descriptor `head`, in each respect.
+fn aspects_of(head: &[u8; 64], entry: &[u8; 64]) -> Aspects
+    ensures whole { IsMember aspects.Whole head.now entry.now result.whole }
+    ensures operands { IsMember aspects.Data head.now entry.now result.operands }
+    ensures as_record { IsMember aspects.Record head.now entry.now result.as_record }
+    ensures as_status { IsMember aspects.Status head.now entry.now result.as_status }
+{
+    match unseen_reason(head, entry) {
+        Some(why) => Aspects {
+            whole: Member::Unknown(why),
+            operands: Member::Unknown(why),
+            as_record: Member::Unknown(why),
+            as_status: Member::Unknown(why),
+        },
+        None => Aspects {
+            whole: Member::Known(touched_in(Aspect::Whole, entry)),
+            operands: Member::Known(touched_in(Aspect::Data, entry)),
+            as_record: Member::Known(touched_in(Aspect::Record, entry)),
+            as_status: Member::Known(touched_in(Aspect::Status, entry)),
+        },
+    }
+}
+
+/// What is known of the entries of a batch: of each entry in each respect.
+#[derive(Drop)]
+pub(crate) struct Members {
+    pub whole: Vec<Member>,
+    pub operands: Vec<Member>,
+    pub records: Vec<Member>,
+    pub statuses: Vec<Member>,
+}
+
+/// What is known of the entries of the batch that has the descriptor `head`.
 pub(crate) fn members_of(
     alloc: Global,
-    aspect: Aspect,
     head: &[u8; 64],
     entries: &[[u8; 64]],
-) -> Result<Vec<Member>, AllocError>
-    ensures { IfOk result (λ members. AreMembers aspect head.now entries.now members.items) }
+) -> Result<Members, AllocError>
+    ensures whole { IfOk result
+        (λ members. AreMembers aspects.Whole head.now entries.now members.whole.items) }
+    ensures operands { IfOk result
+        (λ members. AreMembers aspects.Data head.now entries.now members.operands.items) }
+    ensures records { IfOk result
+        (λ members. AreMembers aspects.Record head.now entries.now members.records.items) }
+    ensures statuses { IfOk result
+        (λ members. AreMembers aspects.Status head.now entries.now members.statuses.items) }
 {
-    let mut members = Vec::with_capacity(alloc, entries.len())?;
+    let count = entries.len();
+    let mut whole = Vec::with_capacity(alloc, count)?;
+    let mut operands = Vec::with_capacity(alloc, count)?;
+    let mut records = Vec::with_capacity(alloc, count)?;
+    let mut statuses = Vec::with_capacity(alloc, count)?;
     for entry in entries {
-        members.push(member_of(aspect, head, entry))?;
+        let aspects = aspects_of(head, entry);
+        whole.push(aspects.whole)?;
+        operands.push(aspects.operands)?;
+        records.push(aspects.as_record)?;
+        statuses.push(aspects.as_status)?;
     }
-    Ok(members)
+    Ok(Members {
+        whole,
+        operands,
+        records,
+        statuses,
+    })
 }

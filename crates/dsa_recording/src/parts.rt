@@ -11,7 +11,6 @@ ghost use Rattle.dsa_recording.specs.Parts.{HasOutcomeAfter, IsSoFar, IsStreamed
 use crate::accepted::Accepted;
 use crate::answer::{AuditAnswer, AuditFormat, AuditOptions, fault_text, status_of};
 use crate::foreign::{Foreign, find_foreign, foreign_text};
-use crate::input::refusal;
 use crate::report::audit_recording;
 use crate::stream::{read_stream, submission_at};
 use crate::uses::use_report;
@@ -143,7 +142,7 @@ impl Parts {
         match self.foreign {
             Some(foreign) => {
                 let reason = foreign_text(alloc, foreign)?;
-                Ok(refusal(alloc, reason))
+                Ok(AuditAnswer::refused(alloc, reason))
             }
             None => {
                 let status = if options.format == AuditFormat::Keys {
@@ -180,7 +179,7 @@ impl Parts {
             }
             Err(fault) => {
                 let reason = fault_text(alloc, self.entries, last, fault)?;
-                Ok(refusal(alloc, reason))
+                Ok(AuditAnswer::refused(alloc, reason))
             }
         }
     }

@@ -1,11 +1,11 @@
 //! Which entries share a completion record.
 
-ghost use Rattle.std.specs.Prelude.{◌≡◌, ℕ, ◌<◌, get_or, length, IfOk, None};
+ghost use Rattle.std.specs.Prelude.{◌≡◌, ℕ, ◌<◌, List, get_or, length, IfOk, None};
 ghost use Rattle.dsa_conflicts.specs.Access.{later};
-ghost use Rattle.dsa_recording.specs.Submissions.{AreShared};
+ghost use Rattle.dsa_recording.specs.declared.member.Aspect.TheVariants as aspects;
+ghost use Rattle.dsa_recording.specs.Submissions.{AreMembers, AreShared};
 
-use crate::member::{Aspect, members_of};
-use dsa_audit::all_lasts;
+use dsa_audit::{Member, all_lasts};
 use std::alloc::{AllocError, Global};
 
 /// The later of two members, if there are any.
@@ -37,18 +37,20 @@ fn later_lasts(
     Ok(lasts)
 }
 
-/// For each of the entries, whose batch has the descriptor `head`, the last one before it with which it shares a record.
+/// For each member of a batch, the last one before it with which it shares a record, by what is known of their records
+/// and of their statuses.
 pub(crate) fn shared_in(
     alloc: Global,
-    head: &[u8; 64],
-    entries: &[[u8; 64]],
+    records: &[Member],
+    statuses: &[Member],
 ) -> Result<Vec<Option<usize>>, AllocError>
-    ensures { IfOk result (λ shared. AreShared head.now entries.now shared.items) }
+    requires { length statuses.now ≡ length records.now }
+    ensures { IfOk result (λ shared. (head : List ℕ) (es : List (List ℕ)) →
+        AreMembers aspects.Record head es records.now →
+        AreMembers aspects.Status head es statuses.now → AreShared head es shared.items) }
 {
-    let records = members_of(alloc, Aspect::Record, head, entries)?;
-    let statuses = members_of(alloc, Aspect::Status, head, entries)?;
-    let firsts = all_lasts(alloc, &records)?;
-    let seconds = all_lasts(alloc, &statuses)?;
+    let firsts = all_lasts(alloc, records)?;
+    let seconds = all_lasts(alloc, statuses)?;
     let shared = later_lasts(alloc, &firsts, &seconds)?;
     Ok(shared)
 }

@@ -7,7 +7,7 @@ ghost use Rattle.dsa_recording.specs.Dumps.{AnswersPortal, AnswersStaged};
 use crate::answer::{AuditAnswer, AuditOptions, audit_bytes};
 use crate::dumps::{Dump, LONGEST_STREAM, StagingFault, stage};
 use crate::entry::Header;
-use crate::input::{bytes_of_text_input, refusal};
+use crate::input::bytes_of_text_input;
 use dsa_descriptor::u64_at;
 use dsa_forms::is_text;
 use dsa_settings::Settings;
@@ -55,7 +55,7 @@ fn audit_portal(
         Ok(stream) => audit_bytes(alloc, &stream, settings, options),
         Err(fault) => {
             let reason = staging_text(alloc, portal, fault)?;
-            Ok(refusal(alloc, reason))
+            Ok(AuditAnswer::refused(alloc, reason))
         }
     }
 }

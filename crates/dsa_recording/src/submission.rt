@@ -10,7 +10,7 @@ use crate::accepted::Accepted;
 use crate::assumptions::Assumptions;
 use crate::failure::fallible_of;
 use crate::flaws::{Flaws, all_flaws, has_misaligned_record};
-use crate::member::{Aspect, action_of, members_of};
+use crate::member::{Members, action_of, members_of};
 use crate::pairs::AcceptedPairs;
 use crate::shared::shared_in;
 use crate::showing::visible_of;
@@ -85,9 +85,13 @@ pub fn audit_submission(
     let at = head_at(submission);
     let entries = &all[submission.first..submission.first + submission.size];
     let fences = fences_of(alloc, entries)?;
-    let members = members_of(alloc, Aspect::Whole, &all[at], entries)?;
     let actions = actions_of(alloc, entries)?;
-    let operands = members_of(alloc, Aspect::Data, &all[at], entries)?;
+    let Members {
+        whole: members,
+        operands,
+        records,
+        statuses,
+    } = members_of(alloc, &all[at], entries)?;
     let fallible = fallible_of(alloc, assumptions, &members, entries)?;
     let visible = visible_of(alloc, assumptions, &all[at], &members, entries)?;
     let effects = Effects {
@@ -110,7 +114,7 @@ pub fn audit_submission(
         members,
         actions,
         operands,
-        shared: shared_in(alloc, &all[at], entries)?,
+        shared: shared_in(alloc, &records, &statuses)?,
         flaws: all_flaws(alloc, submission.is_batch, &all[at], entries)?,
         audit,
     })

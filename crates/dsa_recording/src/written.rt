@@ -17,7 +17,7 @@ use crate::totals::{flaws_text, nothing_text, totals_text};
 use crate::words::{Severity, finding_text};
 use dsa_settings::Settings;
 use std::alloc::{AllocError, Global};
-use std::collections::BTreeMap;
+use std::collections::{BTreeMap, BTreeSet};
 
 /// How much of its recording comes before a part.
 #[derive(Clone, Copy)]
@@ -52,8 +52,10 @@ pub(crate) struct Written {
     before: Before,
     /// The findings in words: each, or the first of each key.
     findings: Vec<Lines>,
-    /// For each key the number of its finding.
+    /// For each text of a finding the number of the first finding that has it.
     firsts: BTreeMap<String, usize>,
+    /// The keys of the errors.
+    keys: BTreeSet<String>,
     /// The findings in JSON, or the keys of the errors.
     text: String,
     sums: Sums,
@@ -93,6 +95,7 @@ impl Written {
             },
             findings: Vec::new(alloc),
             firsts: BTreeMap::new(alloc),
+            keys: BTreeSet::new(alloc),
             text: String::new(alloc),
             sums: Sums::new(alloc),
         }
@@ -166,10 +169,10 @@ impl Written {
     ) -> Result<(), AllocError> {
         let key = key_text(alloc, all, detail)?;
         let severity = severity_in(alloc, options, all, detail)?;
-        if severity == Severity::Error && !self.firsts.contains_key(key.as_str()) {
+        if severity == Severity::Error && !self.keys.contains(key.as_str()) {
             self.text.push_str(&key)?;
             self.text.push_str("\n")?;
-            self.firsts.insert(key, 0)?;
+            self.keys.insert(key)?;
         }
         Ok(())
     }

@@ -365,23 +365,13 @@ fn audit_words<'a>(matches: &ArgMatches<'a>) -> SettingsWords<'a>
     }
 }
 
-/// The answer if the options of `audit` are invalid.
-fn refusal(alloc: Global, text: String) -> AuditAnswer
-    ensures { result.status ≡ 2 }
-{
-    AuditAnswer {
-        text,
-        status: 2,
-        used: Accepted::none(alloc),
-    }
-}
-
 /// The answer if the options spell no settings.
 fn refused_settings(alloc: Global, words: &SettingsWords<'_>) -> Result<AuditAnswer, AllocError>
     ensures { IfOk result (λ a. a.status ≡ 2) }
 {
     let message = settings_fault(alloc, words)?;
-    Ok(refusal(alloc, message_with(alloc, PlanFault::Settings, &message)?))
+    let text = message_with(alloc, PlanFault::Settings, &message)?;
+    Ok(AuditAnswer::refused(alloc, text))
 }
 
 /// The report on an input: a recording, or, if there are dumps, what was written to a portal.
@@ -450,13 +440,15 @@ pub(crate) fn options_in<'a>(
     let Some(denied) = denied_in(alloc, matches)? else {
         let reason =
             "error: --deny takes needless, guarding, signalling, unseen, waits, stale and nothing, with commas between\n";
-        return Ok(Err(refusal(alloc, String::from_str(alloc, reason)?)));
+        let text = String::from_str(alloc, reason)?;
+        return Ok(Err(AuditAnswer::refused(alloc, text)));
     };
     match awaited_in(matches) {
         Some(awaited) => options_denying(alloc, matches, given, waits, denied, awaited),
         None => {
             let reason = "error: --await takes writes, signals or batches\n";
-            Ok(Err(refusal(alloc, String::from_str(alloc, reason)?)))
+            let text = String::from_str(alloc, reason)?;
+            Ok(Err(AuditAnswer::refused(alloc, text)))
         }
     }
 }

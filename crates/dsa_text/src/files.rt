@@ -58,11 +58,7 @@ fn refused(alloc: Global, reason: NoText) -> Result<AuditAnswer, AllocError>
         NoText::Refused(fault) => message_of(alloc, fault)?,
         NoText::Failed(what) => format!(in alloc; "error: the file {what}\n")?,
     };
-    Ok(AuditAnswer {
-        text,
-        status: 2,
-        used: Accepted::none(alloc),
-    })
+    Ok(AuditAnswer::refused(alloc, text))
 }
 
 /// The answer to all that the reader of a file gives.

@@ -5,7 +5,7 @@ ghost use Rattle.dsa_text.specs.Traced.{AnswersEvents, AuditsEvents, IsJoined};
 
 use crate::auditing::{Given, audit_input, format_in};
 use clap::ArgMatches;
-use dsa_forms::{BytesFault, bytes_of_input, is_text};
+use dsa_forms::{bytes_of_input, is_text};
 use dsa_recording::{Accepted, AuditAnswer, AuditFormat};
 use dsa_waits::{WaitsAnswer, answer_waits};
 use std::alloc::{AllocError, Global};
@@ -24,19 +24,13 @@ fn waits_of(
     if !is_text(input) {
         return answer_waits(alloc, input, events, format, accepted);
     }
-    match bytes_of_input(alloc, input) {
+    match bytes_of_input(alloc, input)? {
         Ok(bytes) => answer_waits(alloc, &bytes, events, format, accepted),
-        Err(BytesFault::Memory) => Err(AllocError),
-        Err(BytesFault::Digit { .. }) => {
+        Err(_) => {
             let reason = "error: with these the recording has to be bytes, or a text of digits\n";
             let text = String::from_str(alloc, reason)?;
-            let report = AuditAnswer {
-                text,
-                status: 2,
-                used: Accepted::none(alloc),
-            };
             Ok(WaitsAnswer {
-                report,
+                report: AuditAnswer::refused(alloc, text),
                 drawn: Vec::new(alloc),
             })
         }
@@ -84,11 +78,7 @@ fn joined(
     if waits.status == 2 {
         let reason = waits.text;
         let text = format!(in alloc; "{file}: {reason}")?;
-        return Ok(AuditAnswer {
-            text,
-            status: 2,
-            used: Accepted::none(alloc),
-        });
+        return Ok(AuditAnswer::refused(alloc, text));
     }
     let status = report.status.max(waits.status);
     let mut used = report.used;

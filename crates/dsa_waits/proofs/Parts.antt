@@ -2,8 +2,9 @@
 use Rattle.std.proofs.Common.{◌≡◌, ℕ, suc, ◌<◌, ◌≤◌, Bool, true, false, List, [], ◌∷◌, ◌++◌, length, Some, sym, ap, subst, ◌∙◌, arith}
 use Rattle.std.specs.Prelude.{if◌then◌else◌, ◌==◌}
 use Rattle.std.proofs.lemmas.List.{length-take-le}
+use Rattle.dsa_lines.specs.Texts.{before}
 use Rattle.dsa_waits.specs.declared.lines.Line.{Line}
-use Rattle.dsa_waits.specs.Lines.{SpellsUpTo, before, after, first_part, line_of}
+use Rattle.dsa_waits.specs.Lines.{SpellsUpTo, after, first_part, line_of}
 
 before_by : (b : Bool) (n m : ℕ) → n ≤ m → (if b then 0 else suc n) ≤ suc m
 before_by true n m le = omega arith

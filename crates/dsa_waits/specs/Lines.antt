@@ -2,6 +2,7 @@
 use Rattle.std.specs.Prelude.{◌≡◌, ℕ, zero, suc, ◌+◌, ◌<◌, ◌⊎◌, ◌==◌, ◌&&◌, List, [], ◌∷◌, length, take, drop, Option, Some, None, codes, if◌then◌else◌}
 use Rattle.std.specs.Str.{bytes_eq}
 use Rattle.dsa_lines.specs.Numbers.{numeral}
+use Rattle.dsa_lines.specs.Texts.{before}
 use Rattle.dsa_waits.specs.declared.event.Event.TheVariants as event
 use Rattle.dsa_waits.specs.declared.event.Queue.{Queue}
 use Rattle.dsa_waits.specs.declared.lines.Line.{Line}
@@ -11,12 +12,7 @@ use Rattle.dsa_waits.specs.declared.lines.LinesFault.TheVariants as fault
 
 -- ---- parts of a text
 
--- how many bytes come before the first that is c
-abbrev pub before : ℕ → List ℕ → ℕ
-before c [] = 0
-before c (x ∷ xs) = if x == c then 0 else suc (before c xs)
-
--- the bytes before that one
+-- the bytes before the first that is c
 abbrev pub first_part : ℕ → List ℕ → List ℕ
 first_part c text = take (before c text) text
 

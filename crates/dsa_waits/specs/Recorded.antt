@@ -1,8 +1,7 @@
 -- What a recording says of the entries and submissions of a course.
-use Rattle.std.specs.Prelude.{ℕ, ◌≡◌, ◌*◌, ◌<◌, ◌≤◌, ◌⊎◌, ◌==◌, ◌&&◌, not, bit_and, Bool, true, false, List, [], ◌∷◌, length, get_or, slice_get, Some, slice_index_or, if◌then◌else◌}
+use Rattle.std.specs.Prelude.{ℕ, ◌≡◌, ◌<◌, ◌≤◌, ◌⊎◌, ◌==◌, ◌&&◌, not, bit_and, Bool, true, false, List, [], length, get_or, slice_get, Some, slice_index_or, if◌then◌else◌}
 use Rattle.dsa_descriptor.specs.declared.span.Span.{Span}
-use Rattle.dsa_descriptor.specs.Spans.{span}
-use Rattle.dsa_descriptor.specs.Places.{u32_at, u64_at, flags_at, code_at}
+use Rattle.dsa_descriptor.specs.Places.{flags_at, code_at}
 use Rattle.dsa_audit.specs.declared.member.Member.{Member}
 use Rattle.dsa_audit.specs.declared.member.Member.TheVariants.{Known, Unknown}
 use Rattle.dsa_audit.specs.declared.member.Unseen.TheVariants.{Operation}
@@ -12,6 +11,7 @@ use Rattle.dsa_descriptor.specs.Fences.{is_fenced}
 use Rattle.dsa_recording.specs.Submissions.{head_at}
 use Rattle.dsa_recording.specs.declared.member.Aspect.TheVariants.{Whole}
 use Rattle.dsa_recording.specs.Entries.{IsMember, records_of}
+use Rattle.dsa_recording.specs.Flaws.{list_spans}
 use Rattle.dsa_waits.specs.declared.course.Course.{Course}
 use Rattle.dsa_waits.specs.declared.course.Entry.{Entry}
 use Rattle.dsa_waits.specs.declared.course.Made.{Made}
@@ -57,14 +57,14 @@ pub record IsEntry (es : List (List ℕ)) (n first e : ℕ) (entry : Entry) : Ty
 
 -- ---- what it reads and writes
 
--- the descriptors of a batch: 64 bytes each (specification 341204, batch descriptor). Those of a batch that asks for no
--- record are left out: nothing would ever tell that they have been read
-abbrev pub list_spans : List ℕ → List Span
-list_spans h = if asks_record h then span (u64_at 16 h) (64 * u32_at 32 h) ∷ [] else []
+-- the descriptors of a batch. Those of a batch that asks for no record are left out: nothing would ever tell that they have
+-- been read
+abbrev pub watched_list : List ℕ → List Span
+watched_list h = if asks_record h then list_spans h else []
 
 -- the descriptor of a batch reads its list and writes its record
 abbrev pub IsHeadAccess : List ℕ → Member → Type 0
-IsHeadAccess h (Known t) = (t.reads.items ≡ list_spans h) × (t.writes.items ≡ records_of h)
+IsHeadAccess h (Known t) = (t.reads.items ≡ watched_list h) × (t.writes.items ≡ records_of h)
 IsHeadAccess h (Unknown why) = ⊥
 
 -- what entry e of the submission reads and writes; of a member, or of a lone descriptor, what an audit knows of it

@@ -83,13 +83,8 @@ fn status_in(format: AuditFormat, status: u8) -> u8
 fn refusal(alloc: Global, text: String) -> WaitsAnswer
     ensures { Refuses result.report }
 {
-    let report = AuditAnswer {
-        text,
-        status: 2,
-        used: Accepted::none(alloc),
-    };
     WaitsAnswer {
-        report,
+        report: AuditAnswer::refused(alloc, text),
         drawn: Vec::new(alloc),
     }
 }

@@ -1,12 +1,13 @@
 //! Events as lines of text.
 
-ghost use Rattle.std.specs.Prelude.{◌≡◌, ◌≤◌, IfErr, IfOk, length};
+ghost use Rattle.std.specs.Prelude.{◌≡◌, IfErr, IfOk};
 ghost use Rattle.std.specs.Str.{bytes_eq};
 ghost use Rattle.dsa_lines.specs.Numbers.{numeral};
 ghost use Rattle.dsa_waits.specs.declared.lines.LinesFault.TheVariants.{Memory};
-ghost use Rattle.dsa_waits.specs.Lines.{IsLinesFault, Spells, before, after, ended_line, first_part, known_line, line_by, line_of, member_line, queue_in, queue_of, submission_with, submitted_line, watched_line};
+ghost use Rattle.dsa_waits.specs.Lines.{IsLinesFault, Spells, after, ended_line, first_part, known_line, line_by, line_of, member_line, queue_in, queue_of, submission_with, submitted_line, watched_line};
 
 use crate::event::{Event, Queue};
+use dsa_lines::{before, numeral};
 use std::alloc::{AllocFailed, Global};
 
 /// What the line of a submission says of it.
@@ -48,47 +49,6 @@ impl<T: Drop> From<AllocFailed<T>> for LinesFault {
     }
 }
 
-/// The number that decimal digits write, if it is below 2^64.
-#[tactic(auto, unfolding(dsa_lines::specs::Numbers::numeral_after))]
-fn decimal(digits: &[u8]) -> Option<u64>
-    ensures { result ≡ numeral 10 digits.now }
-{
-    if digits.is_empty() {
-        return None;
-    }
-    let mut value: u64 = 0;
-    let mut rest = digits;
-    while let [first, after @ ..] = rest {
-        let Some(digit) = (*first as char).to_digit(10) else {
-            return None;
-        };
-        let next = u128::from(value) * 10 + u128::from(digit);
-        let Ok(next) = u64::try_from(next) else {
-            return None;
-        };
-        value = next;
-        rest = after;
-    }
-    Some(value)
-}
-
-/// How many bytes come before the first of these.
-fn before(text: &[u8], byte: u8) -> usize
-    ensures value { result ≡ before byte text.now }
-    ensures bound { result ≤ length text.now }
-{
-    let mut len: usize = 0;
-    let mut rest = text;
-    while let [first, after @ ..] = rest {
-        if *first == byte {
-            return len;
-        }
-        len += 1;
-        rest = after;
-    }
-    len
-}
-
 /// What comes before the first of these bytes, and what comes after it.
 fn parted(text: &[u8], byte: u8) -> (&[u8], &[u8])
     ensures first { result.0.now ≡ first_part byte text.now }
@@ -106,10 +66,10 @@ fn queue_in(numbers: &[u8]) -> Option<Queue>
     ensures { result ≡ queue_in numbers.now }
 {
     let (device, number) = parted(numbers, b'.');
-    let Some(device) = decimal(device) else {
+    let Some(device) = numeral(device, 10) else {
         return None;
     };
-    let Some(number) = decimal(number) else {
+    let Some(number) = numeral(number, 10) else {
         return None;
     };
     Some(Queue { device, number })
@@ -132,16 +92,16 @@ fn submission_of(number: &[u8], queue: &[u8], code: &[u8], members: &[u8]) -> Op
     ensures { result ≡ submission_with (numeral 10 number.now) (queue_of queue.now)
         (numeral 10 code.now) (numeral 10 members.now) }
 {
-    let Some(number) = decimal(number) else {
+    let Some(number) = numeral(number, 10) else {
         return None;
     };
     let Some(queue) = queue_of(queue) else {
         return None;
     };
-    let Some(code) = decimal(code) else {
+    let Some(code) = numeral(code, 10) else {
         return None;
     };
-    let Some(members) = decimal(members) else {
+    let Some(members) = numeral(members, 10) else {
         return None;
     };
     Some(Line::Submitted(Submitting {
@@ -184,13 +144,13 @@ fn member_line(text: &[u8]) -> Option<Line>
 {
     let (number, rest) = parted(text, b' ');
     let (member, status) = parted(rest, b' ');
-    let Some(number) = decimal(number) else {
+    let Some(number) = numeral(number, 10) else {
         return None;
     };
-    let Some(member) = decimal(member) else {
+    let Some(member) = numeral(member, 10) else {
         return None;
     };
-    let Some(_) = decimal(status) else {
+    let Some(_) = numeral(status, 10) else {
         return None;
     };
     Some(Line::Happened(Event::MemberEnded(number as usize, member as usize)))
@@ -201,10 +161,10 @@ fn ended_line(text: &[u8]) -> Option<Line>
     ensures { result ≡ ended_line text.now }
 {
     let (number, status) = parted(text, b' ');
-    let Some(number) = decimal(number) else {
+    let Some(number) = numeral(number, 10) else {
         return None;
     };
-    let Some(status) = decimal(status) else {
+    let Some(status) = numeral(status, 10) else {
         return None;
     };
     Some(Line::Happened(Event::Ended(number as usize, status)))
@@ -214,7 +174,7 @@ fn ended_line(text: &[u8]) -> Option<Line>
 fn watched_line(text: &[u8]) -> Option<Line>
     ensures { result ≡ watched_line text.now }
 {
-    let Some(number) = decimal(text) else {
+    let Some(number) = numeral(text, 10) else {
         return None;
     };
     Some(Line::Happened(Event::Watched(number as usize)))
@@ -224,7 +184,7 @@ fn watched_line(text: &[u8]) -> Option<Line>
 fn known_line(text: &[u8]) -> Option<Line>
     ensures { result ≡ known_line text.now }
 {
-    let Some(number) = decimal(text) else {
+    let Some(number) = numeral(text, 10) else {
         return None;
     };
     Some(Line::Happened(Event::Known(number as usize)))

@@ -1,11 +1,10 @@
 //! The course of a recording.
 
 ghost use Rattle.std.specs.Prelude.{◌≡◌, ◌<◌, ◌≤◌, All, IfOk, OnOk, if◌then◌else◌, length};
-ghost use Rattle.dsa_recording.specs.Entries.{records_of};
 ghost use Rattle.dsa_recording.specs.Streams.{ReadsUpTo, end_of};
 ghost use Rattle.dsa_descriptor.specs.Fences.{is_fenced};
 ghost use Rattle.dsa_recording.specs.Submissions.{head_at};
-ghost use Rattle.dsa_waits.specs.Recorded.{FitsRecording, IsAccess, IsCourseOf, IsHeadAccess, asks_record, list_spans};
+ghost use Rattle.dsa_waits.specs.Recorded.{FitsRecording, IsAccess, IsCourseOf, IsHeadAccess, asks_record, watched_list};
 ghost use Rattle.dsa_waits.specs.RecordedSteps.{AreMade, AreMarked, HasEntries, WithEntries, made_with};
 ghost use Rattle.dsa_waits.specs.Waits.{IsCourse, failed_by, made_before, watched_by};
 
@@ -14,9 +13,11 @@ use crate::event::{Event, Queue, mark};
 use arrayvec::ArrayVec;
 use bitflags::Flags;
 use dsa_audit::Member;
-use dsa_descriptor::{FlagWord, Span, is_fenced, record_span, u64_at};
+use dsa_descriptor::{Span, is_fenced};
 use dsa_ranges::Touched;
-use dsa_recording::{Aspect, Header, RECORD_REQUESTED, Submission, head_at, member_of};
+use dsa_recording::{
+    Aspect, Header, RECORD_REQUESTED, Submission, head_at, list_spans, member_of, records_of,
+};
 use std::alloc::{AllocError, Global};
 
 /// Whether the entry asks for a completion record.
@@ -27,29 +28,13 @@ fn asks_record(entry: &[u8; 64]) -> bool
 }
 
 /// What the descriptor of a batch reads: its list, if it asks for a record.
-fn list_spans(head: &[u8; 64]) -> ArrayVec<Span, 3>
-    ensures { result.items ≡ list_spans head.now }
+fn watched_list(head: &[u8; 64]) -> ArrayVec<Span, 3>
+    ensures { result.items ≡ watched_list head.now }
 {
-    let mut reads = ArrayVec::new();
     if asks_record(head) {
-        reads.push(Span {
-            first: u64_at(head, 16),
-            len: 64 * u64::from(Header::of(head).size),
-        });
+        return list_spans(head);
     }
-    reads
-}
-
-/// What it writes: its record.
-fn records_of(head: &[u8; 64]) -> ArrayVec<Span, 3>
-    ensures { result.items ≡ records_of head.now }
-{
-    let mut writes = ArrayVec::new();
-    let header = Header::of(head);
-    if header.flags.contains(FlagWord::RECORD_VALID) {
-        writes.push(record_span(header.record_at));
-    }
-    writes
+    ArrayVec::new()
 }
 
 /// What the descriptor of a batch reads and writes.
@@ -57,7 +42,7 @@ fn head_access(head: &[u8; 64]) -> Member
     ensures { IsHeadAccess head.now result }
 {
     Member::Known(Touched {
-        reads: list_spans(head),
+        reads: watched_list(head),
         writes: records_of(head),
     })
 }

@@ -10,4 +10,4 @@ returns-in-Ok c =
 
 pub returns-in_ok-reason-in-Err : goal.returns-in_ok-reason-in-Err
 returns-in_ok-reason-in-Err c =
-    inr (c.refusal.ensures, no_stream c.args.dumps.now c.args.portal.now c.in-Err.fault c.in_ok-reason-in-Err.ensures c.in-Err.ensures)
+    inr (c.refused.ensures.refuses, no_stream c.args.dumps.now c.args.portal.now c.in-Err.fault c.in_ok-reason-in-Err.ensures c.in-Err.ensures)

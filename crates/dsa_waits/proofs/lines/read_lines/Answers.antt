@@ -1,7 +1,8 @@
 use Rattle.std.proofs.Common.{◌≡◌, ℕ, ◌<◌, inl, List, Some, length, sym, ap, subst, ◌∙◌, arith}
 use Rattle.std.proofs.lemmas.Bool.{eqb-false}
+use Rattle.dsa_lines.specs.Texts.{before}
 use Rattle.dsa_waits.specs.declared.lines.Line.{Line}
-use Rattle.dsa_waits.specs.Lines.{SpellsUpTo, before, after, first_part, line_of}
+use Rattle.dsa_waits.specs.Lines.{SpellsUpTo, after, first_part, line_of}
 use Rattle.dsa_waits.proofs.Parts.{before_within, part_length, spelled_more}
 use Rattle.dsa_waits.proofs.lines.read_lines.Goals as goal
 

@@ -6,10 +6,9 @@ use crate::kept::joined;
 use crate::overwritten::overwritten_notes;
 use crate::rows::warnings_of;
 use crate::unfit::unfit_notes;
-use dsa_calls::PlanFault;
 use dsa_descriptor::{Descriptor, Op};
 use dsa_lines::TextList;
-use dsa_lists::{AnyPlanned, plan_read_list};
+use dsa_lists::AnyPlanned;
 use dsa_operations::Operation;
 use dsa_plan::Settings;
 use dsa_settings::cuts_of;
@@ -142,7 +141,7 @@ fn early_note(
     Ok(Some(text))
 }
 
-/// The notes and warnings about a list and records, if the list can be planned: how long the records should be; else
+/// The notes and warnings about a list that was read and planned, and its records: how long the records should be; else
 /// which operations meet the records of others; else which pieces have failed, which records can't be those of their
 /// pieces, that a piece may have overwritten its own source, which pieces read what one that is given up was to write,
 /// and that submitting the groups of its plan in turn does not leave such records. A record that pieces share does not
@@ -150,15 +149,11 @@ fn early_note(
 pub fn resume_notes(
     alloc: Global,
     read: &TextList<'_>,
+    planned: &AnyPlanned,
     settings: &Settings,
     records: &[u8],
     given_up: &[u8],
 ) -> Result<Option<String>, AllocError> {
-    let planned = match plan_read_list(alloc, &read.list, settings) {
-        Ok(planned) => planned,
-        Err(fault) if fault == PlanFault::Memory => return Err(AllocError),
-        Err(_) => return Ok(None),
-    };
     let operations = read.list.entries.as_slice();
     let (pieces, given) = (planned.operations.len(), records.len());
     let needed = pieces.saturating_mul(32);
@@ -177,6 +172,6 @@ pub fn resume_notes(
     let (completions, _) = records.as_chunks::<32>();
     let lines = read.lines.as_slice();
     let failed = failed_notes(alloc, lines, operations, settings, completions, given_up)?;
-    let planned = planned_notes(alloc, &planned, records, given_up)?;
+    let planned = planned_notes(alloc, planned, records, given_up)?;
     joined(failed, planned)
 }

@@ -1,6 +1,6 @@
 //! Planning the operations of a list.
 
-ghost use Rattle.std.specs.Prelude.{◌≡◌, ◌⊎◌, [], Bool, List, length, map, IfErr, IfOk, IfSome, Ok, Err, Result};
+ghost use Rattle.std.specs.Prelude.{◌≡◌, ◌≢◌, ◌⊎◌, [], Bool, List, length, map, IfErr, IfOk, IfSome, Ok, Err, Result};
 ghost use Rattle.dsa_descriptor.specs.declared.descriptor.Descriptor.{Descriptor};
 ghost use Rattle.dsa_descriptor.specs.Descriptors.{fields};
 ghost use Rattle.dsa_ranges.specs.Ranges.{ConflictAt};
@@ -118,6 +118,8 @@ pub fn plan_operations(
     ensures barriers { IfOk result (λ p. p.barriers.items ≡
         piece_barriers settings.now.greatest_transfer
         (map fields operations.now.descriptors.items) operations.now.barriers.items) }
+    ensures marked { IfOk result
+        (λ p. p.barriers.items ≢ [] → length p.barriers.items ≡ length p.pieces.items) }
 {
     let pieces = split(alloc, operations, settings)?;
     let submission = plan_pieces(alloc, pieces, settings)?;

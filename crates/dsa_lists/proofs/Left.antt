@@ -17,7 +17,7 @@ use Rattle.dsa_descriptor.proofs.Listed.{list_is, one_owner, spelt}
 use Rattle.dsa_descriptor.proofs.Fenced as fences
 use Rattle.dsa_descriptor.proofs.Marked as descriptors
 use Rattle.dsa_descriptor.specs.declared.span.Span.{Span}
-use Rattle.dsa_ranges.specs.Pieces.{writes_of as descriptor_writes}
+use Rattle.dsa_ranges.specs.Pieces.{TouchesAt, writes_of as descriptor_writes}
 use Rattle.dsa_ranges.specs.Ranges.{Touches}
 use Rattle.dsa_emission.specs.Emission.{staging_span}
 use Rattle.dsa_settings.specs.Settings.{Limits}
@@ -31,7 +31,7 @@ use Rattle.dsa_resume.specs.declared.left.LeftOrder.{LeftOrder}
 use Rattle.dsa_resume.specs.declared.rest.Rest.{Rest}
 use Rattle.dsa_resume.specs.Rest.{Remainder, remainder_of}
 use Rattle.dsa_resume.specs.Resumed.{CanBePlannedAgain, IsAnswer, Resumes, ResumesPieces, Stopped, ends_in, gives_up_other, has_left, has_pieces, is_refused, lacks_records, passes_barrier, shares_record}
-use Rattle.dsa_resume.proofs.Again.{IsIn, can_again, left_barriers, mapped, pairs_kept, rest_in}
+use Rattle.dsa_resume.proofs.Again.{IsIn, all_in, can_again, left_barriers, mapped, pairs_kept, rest_in}
 use Rattle.dsa_resume.proofs.Listed.{rest_can_be_listed}
 use Rattle.dsa_resume.proofs.Resumed.{rest_of_answer}
 use Rattle.dsa_resume.proofs.Short.{rest_few}
@@ -39,7 +39,7 @@ use Rattle.dsa_operations.specs.declared.operation.Operation.{Operation}
 use Rattle.dsa_operations.specs.declared.operation.Operation.TheVariants as operation
 use Rattle.dsa_lists.specs.AnyLists.{AreAnyPieces, IsOfDescriptors, PlansAnyList}
 use Rattle.dsa_operations.specs.Faults.{OperationKeeps}
-use Rattle.dsa_operations.specs.Operations.{size_of, spelling_of, writes_of}
+use Rattle.dsa_operations.specs.Operations.{operation_kind, size_of, spelling_of, writes_of}
 use Rattle.dsa_lists.specs.Resuming.{IsListAgain, ResumesAnyList, ResumesOperationList, as_operations, rest_bytes}
 use Rattle.dsa_lists.specs.Submissions.{AreReady, CanBeSubmitted}
 use Rattle.dsa_operations.proofs.Answered.{are_operations}
@@ -127,6 +127,25 @@ submitted_can s ds can owner =
           (a, (first, omega (arith, last, count, fields_count)), touches));
     }
 
+-- and the other way round
+pub planned_can : (s : Limits) (ds : List Descriptor) → CanBePlanned s (map fields ds) → CanBeSubmitted s (map operation.Descriptor ds)
+planned_can s ds can =
+    let count : length (map operation.Descriptor ds) ≡ length ds = length-map ds operation.Descriptor in
+    let fields_count : length (map fields ds) ≡ length ds = length-map ds fields in
+    let there : (d : Descriptor) (i : ℕ) → slice_get ds i ≡ Some d → IsIn (map fields ds) (fields d) = λ d i at. (i, made_there fields ds i d at) in
+    record {
+      few = omega (arith, can.few, count, fields_count);
+      short = λ i size at.
+          let (o, at_o, is_size) = mapped size_of (map operation.Descriptor ds) i size at in
+          let (d, at_d, is) = mapped operation.Descriptor ds i o at_o in
+          subst (λ (n : ℕ). n ≤ s.greatest_transfer) (ap size_of is ∙ is_size)
+          (all_in (λ (f : Fields). f.size ≤ s.greatest_transfer) (map fields ds) (fields d) can.short (there d i at_d));
+      clear = λ i o at (a, (first, last), touched).
+          let (d, at_d, is) = mapped operation.Descriptor ds i o at in
+          all_in (λ (f : Fields). (a : ℕ) → InSpan (staging_span s (map fields ds)) a → ¬ Touches f a) (map fields ds) (fields d) can.clear (there d i at_d)
+          a (first, omega (arith, last, count, fields_count)) (subst (λ (x : Operation). TouchesAt operation_kind x a) (sym is) touched);
+    }
+
 -- fewer operations of those that can be submitted can be submitted
 fewer_can : (s : Limits) (os qs : List Operation) → CanBeSubmitted s os → length qs ≤ length os → ((q : Operation) (k : ℕ) → slice_get qs k ≡ Some q → IsIn os q) → CanBeSubmitted s qs
 fewer_can s os qs can fewer are = record {
@@ -170,16 +189,21 @@ module _ (s : Limits) (rest : Remainder Operation) (can : CanBeSubmitted s rest.
 -- ---- answers
 
 -- what is left of operations that can be submitted
+pub left_again : (s : Limits) (order : LeftOrder) (l : Stopped Operation) → CanBeSubmitted s l.pieces → AreOfOneOwner spelling_of l.pieces → (l.barriers ≢ [] → length l.barriers ≡ length l.pieces)
+    → (rest : Remainder Operation) → ResumesPieces writes_of order l (Ok rest) → IsListAgain s rest
+left_again s order l can owner marked rest answer =
+    let (count, left) = rest_of_answer writes_of order l rest answer in
+    let (counted, kept) = left_barriers order l.pieces l.barriers (ends_in l) rest marked count left in
+    let are = rest_in order l.pieces l.barriers (ends_in l) left.front rest left.is_rest in
+    let fewer = rest_few order l.pieces l.barriers (ends_in l) left.front rest left.is_rest in
+    operations_again s rest (fewer_can s l.pieces rest.pieces can fewer are)
+    (pairs_kept (λ (o p : Operation). AgreeOnOwner (spelling_of o) (spelling_of p)) (λ o. (refl, refl)) (λ o p (pasid, privileged). (sym pasid, sym privileged))
+    l.pieces rest.pieces owner are) counted kept
+
+-- the same of an answer
 pub again_if_left : (s : Limits) (order : LeftOrder) (l : Stopped Operation) → CanBeSubmitted s l.pieces → AreOfOneOwner spelling_of l.pieces → (l.barriers ≢ [] → length l.barriers ≡ length l.pieces)
     → (r : Result (Rest Operation) ResumeFault) → IsAnswer (ResumesPieces writes_of order l) r → IfOk r (λ rest. IsListAgain s (remainder_of rest))
-again_if_left s order l can owner marked (Ok rest) answer =
-    let (count, left) = rest_of_answer writes_of order l rest answer in
-    let (counted, kept) = left_barriers order l.pieces l.barriers (ends_in l) (remainder_of rest) marked count left in
-    let are = rest_in order l.pieces l.barriers (ends_in l) left.front (remainder_of rest) left.is_rest in
-    let fewer = rest_few order l.pieces l.barriers (ends_in l) left.front (remainder_of rest) left.is_rest in
-    operations_again s (remainder_of rest) (fewer_can s l.pieces (remainder_of rest).pieces can fewer are)
-    (pairs_kept (λ (o p : Operation). AgreeOnOwner (spelling_of o) (spelling_of p)) (λ o. (refl, refl)) (λ o p (pasid, privileged). (sym pasid, sym privileged))
-    l.pieces (remainder_of rest).pieces owner are) counted kept
+again_if_left s order l can owner marked (Ok rest) answer = left_again s order l can owner marked (remainder_of rest) answer
 again_if_left s order l can owner marked (Err fault) answer = tt
 
 -- an outcome of pieces is no fault of bytes

@@ -1,13 +1,13 @@
 -- The plans of operations that were read are legal for their pieces.
-use Rattle.std.proofs.Common.{◌≡◌, ◌≤◌, ◌<◌, inl, inr, ℕ, Bool, List, [], ◌∷◌, length, map, get_or, refl, sym, ap, subst, ◌∙◌, arith, Ok, Err, Result, Some}
+use Rattle.std.proofs.Common.{◌≡◌, ◌≢◌, ◌≤◌, ◌<◌, inl, inr, ℕ, Bool, List, [], ◌∷◌, length, map, get_or, refl, sym, ap, subst, ◌∙◌, arith, Ok, Err, Result, Some}
 use Rattle.std.specs.Prelude.{IfOk, slice_get}
 use Rattle.std.proofs.lemmas.Option.{slice_get_read}
 use Rattle.std.proofs.lemmas.List.{length-map}
 use Rattle.dsa_descriptor.specs.declared.descriptor.Descriptor.{Descriptor}
 use Rattle.dsa_descriptor.specs.Descriptors.{fields}
-use Rattle.dsa_descriptor.specs.Lists.{AreOfOneOwner, HaveOneOwner}
+use Rattle.dsa_descriptor.specs.Lists.{AgreeOnOwner, AreOfOneOwner, HaveOneOwner}
 use Rattle.dsa_descriptor.specs.Pieces.{most_pieces}
-use Rattle.dsa_descriptor.proofs.Listed.{one_owner}
+use Rattle.dsa_descriptor.proofs.Listed.{one_owner, spelt_owner}
 use Rattle.dsa_ranges.specs.Ranges.{ConflictAt}
 use Rattle.dsa_settings.specs.Barriers.{WithBarriers}
 use Rattle.dsa_settings.specs.Legal.{IsLegal}
@@ -19,16 +19,19 @@ use Rattle.dsa_calls.specs.declared.fault.PlanFault.{PlanFault}
 use Rattle.dsa_calls.specs.Fenced.{PiecesConflict}
 use Rattle.dsa_calls.specs.Lists.{OrMemory}
 use Rattle.dsa_calls.proofs.PiecesChecked.{shown_by}
+use Rattle.dsa_calls.proofs.Submissions.{pieces_can}
 use Rattle.dsa_operations.specs.declared.operation.Operation.{Operation}
 use Rattle.dsa_operations.specs.declared.operation.Operation.TheVariants as operation
 use Rattle.dsa_operations.specs.Operations.{OperationConflictAt, spelling_of}
 use Rattle.dsa_lists.specs.declared.pieces.AnyPlanned.{AnyPlanned}
 use Rattle.dsa_resume.proofs.Again.{mapped}
 use Rattle.dsa_operations.specs.declared.checksum.Checksum.{Checksum}
-use Rattle.dsa_lists.proofs.Left.{unmapped}
+use Rattle.dsa_lists.proofs.Left.{left_again, planned_can, unmapped}
 use Rattle.dsa_lists.specs.ReadLists.{AreDescriptors, PlannedPieces, PlansEntire, PlansSplit, planned_pieces_of}
+use Rattle.dsa_lists.specs.Resuming.{LeavesLists}
+use Rattle.dsa_lists.specs.Submissions.{CanBeSubmitted}
 use Rattle.dsa_lists.proofs.Listed.{conflict_alike}
-use Rattle.dsa_lists.proofs.SubmittedAlike.{legal_alike}
+use Rattle.dsa_lists.proofs.SubmittedAlike.{all_pairs_map, legal_alike}
 use Rattle.dsa_lists.proofs.Submitted.{is_least}
 
 -- ---- plans of descriptors as plans of operations
@@ -85,6 +88,32 @@ pub entire_is_planned : (s : Limits) (operations : List Operation) (barriers : L
     → IfOk r (λ p. IsPlanned s (planned_pieces_of p))
 entire_is_planned s operations barriers (Ok p) says = entire_planned s operations barriers (planned_pieces_of p) says
 entire_is_planned s operations barriers (Err fault) says = tt
+
+-- ---- what is left of them
+
+-- there is a mark for each piece, or none
+abbrev AreMarked : PlannedPieces → Type 0
+AreMarked p = p.barriers ≢ [] → length p.barriers ≡ length p.pieces
+
+again : (s : Limits) (p : PlannedPieces) → CanBeSubmitted s p.pieces → AreOfOneOwner spelling_of p.pieces → AreMarked p → LeavesLists s p
+again s p can owner marked records given_up order rest resumes =
+    left_again s order (record { pieces = p.pieces; barriers = p.barriers; records = records; given_up = given_up }) can owner marked rest resumes
+
+pub split_again : (s : Limits) (ds : List Descriptor) (barriers : List Bool) → HaveOneOwner (map fields ds) → (r : Result AnyPlanned PlanFault)
+    → OrMemory planned_pieces_of (PlansSplit s ds barriers) r → IfOk r (λ p. AreMarked (planned_pieces_of p)) → IfOk r (λ p. LeavesLists s (planned_pieces_of p))
+split_again s ds barriers owner (Ok p) (q, says, is) marked =
+    let can = pieces_can s (map fields ds) (map fields q.pieces) owner says.split says.pieces_are in
+    let one = all_pairs_map (λ o p. AgreeOnOwner (spelling_of o) (spelling_of p)) operation.Descriptor q.pieces (spelt_owner q.pieces can.one_owner) in
+    again s (planned_pieces_of p) (subst (λ (x : PlannedPieces). CanBeSubmitted s x.pieces) (sym is) (planned_can s q.pieces can))
+    (subst (λ (x : PlannedPieces). AreOfOneOwner spelling_of x.pieces) (sym is) one) marked
+split_again s ds barriers owner (Err fault) says marked = tt
+
+pub entire_again : (s : Limits) (operations : List Operation) (barriers : List Bool) → AreOfOneOwner spelling_of operations → (r : Result AnyPlanned PlanFault)
+    → OrMemory planned_pieces_of (PlansEntire s operations barriers) r → IfOk r (λ p. AreMarked (planned_pieces_of p)) → IfOk r (λ p. LeavesLists s (planned_pieces_of p))
+entire_again s operations barriers owner (Ok p) (q, says, is) marked =
+    again s (planned_pieces_of p) (subst (λ (x : PlannedPieces). CanBeSubmitted s x.pieces) (sym is) says.can)
+    (subst (λ (x : PlannedPieces). AreOfOneOwner spelling_of x.pieces) (sym is) owner) marked
+entire_again s operations barriers owner (Err fault) says marked = tt
 
 -- ---- owners
 

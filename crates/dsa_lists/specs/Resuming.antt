@@ -1,8 +1,7 @@
 -- What is left of a list that may have checksums, by the completion records of its pieces. (That a list is resumed so is this
 -- project's choice; which pieces are left is what dsa_resume says of pieces of any kind.)
-use Rattle.std.specs.Prelude.{◌≡◌, ◌⊎◌, ℕ, Bool, List, map, Result, Ok, Err}
+use Rattle.std.specs.Prelude.{◌≡◌, ◌⊎◌, ℕ, List, map, Result, Ok, Err}
 use Rattle.dsa_descriptor.specs.declared.descriptor.Descriptor.{Descriptor}
-use Rattle.dsa_descriptor.specs.Descriptors.{fields}
 use Rattle.dsa_descriptor.specs.Fences.{barriers_of, fenced_entries}
 use Rattle.dsa_settings.specs.Settings.{Limits}
 use Rattle.dsa_calls.specs.declared.fault.PlanFault.{PlanFault}
@@ -10,13 +9,13 @@ use Rattle.dsa_resume.specs.declared.fault.ResumeFault.{ResumeFault}
 use Rattle.dsa_resume.specs.declared.fault.ResumeFault.TheVariants.{Plan}
 use Rattle.dsa_resume.specs.declared.left.LeftOrder.{LeftOrder}
 use Rattle.dsa_resume.specs.Rest.{Remainder}
-use Rattle.dsa_resume.specs.Resumed.{Resumes, ResumesOperations, ResumesPieces}
+use Rattle.dsa_resume.specs.Resumed.{Resumes, ResumesPieces}
 use Rattle.dsa_operations.specs.declared.operation.Operation.{Operation}
 use Rattle.dsa_operations.specs.declared.operation.Operation.TheVariants as operation
 use Rattle.dsa_lists.specs.AnyLists.{AreAnyPieces, OfAnyList, PlansAnyList}
 use Rattle.dsa_operations.specs.Operations.{spelling_of, writes_of}
-use Rattle.dsa_lists.specs.ReadLists.{AreDescriptors}
-use Rattle.dsa_lists.specs.Submissions.{AreReady, CanBeSubmitted, PlansEntries, PlansOperationList}
+use Rattle.dsa_lists.specs.ReadLists.{PlannedPieces}
+use Rattle.dsa_lists.specs.Submissions.{AreReady, PlansOperationList}
 
 -- the outcome for the bytes of a list of operations: what planning the list refuses; or what is left of its operations, with
 -- its barriers
@@ -41,24 +40,6 @@ ResumesAnyList s bytes records given_up order outcome =
     OfAnyList bytes ((o : Result (Remainder Descriptor) ResumeFault) × Resumes s bytes records given_up order o × (outcome ≡ operations_outcome o))
     (ResumesOperationList s bytes records given_up order outcome)
 
--- the outcome for descriptors and their barriers that were read already
-abbrev pub ResumesSplit : Limits → List Descriptor → List Bool → List ℕ → List ℕ → LeftOrder → Result (Remainder Operation) ResumeFault → Type 0
-ResumesSplit s ds barriers records given_up order outcome =
-    (o : Result (Remainder Descriptor) ResumeFault) × ResumesOperations s (map fields ds) barriers records given_up order o × (outcome ≡ operations_outcome o)
-
--- that for operations and their barriers which are planned as they are
-abbrev pub ResumesEntire : Limits → List Operation → List Bool → List ℕ → List ℕ → LeftOrder → Result (Remainder Operation) ResumeFault → Type 0
-ResumesEntire s operations barriers records given_up order outcome =
-    ((fault : PlanFault) × PlansEntries s operations barriers (Err fault) × (outcome ≡ Err (Plan fault)))
-    ⊎ (CanBeSubmitted s operations
-    × ResumesPieces writes_of order (record { pieces = operations; barriers = barriers; records = records; given_up = given_up }) outcome)
-
--- that for operations and their barriers: descriptors alone are resumed as such, others as they are
-abbrev pub ResumesRead : Limits → List Operation → List Bool → List ℕ → List ℕ → LeftOrder → Result (Remainder Operation) ResumeFault → Type 0
-ResumesRead s operations barriers records given_up order outcome =
-    ((ds : List Descriptor) × (operations ≡ map operation.Descriptor ds) × ResumesSplit s ds barriers records given_up order outcome)
-    ⊎ ((¬ AreDescriptors operations) × ResumesEntire s operations barriers records given_up order outcome)
-
 -- the bytes of what is left: a list in which the flag 0x0001 of an operation is a barrier before it
 abbrev pub rest_bytes : Remainder Operation → List ℕ
 rest_bytes rest = fenced_entries spelling_of rest.pieces rest.barriers
@@ -68,3 +49,10 @@ rest_bytes rest = fenced_entries spelling_of rest.pieces rest.barriers
 pub record IsListAgain (s : Limits) (rest : Remainder Operation) : Type 0 where
   pub read : AreAnyPieces (rest_bytes rest) s rest.pieces rest.barriers
   pub accepted : (fault : PlanFault) → ¬ PlansAnyList (rest_bytes rest) s (Err fault)
+
+-- whatever is left of these pieces by their records is a list again
+abbrev pub LeavesLists : Limits → PlannedPieces → Type 0
+LeavesLists s p =
+    (records given_up : List ℕ) (order : LeftOrder) (rest : Remainder Operation) →
+    ResumesPieces writes_of order (record { pieces = p.pieces; barriers = p.barriers; records = records; given_up = given_up }) (Ok rest) →
+    IsListAgain s rest

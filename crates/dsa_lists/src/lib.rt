@@ -18,5 +18,5 @@ pub use laws::{descriptors_are_submitted_alike, descriptors_conflict_alike};
 pub use pieces::{AnyPieces, AnyPlanned, any_pieces, operations_of, plan_any_pieces};
 pub use planning::search_operations;
 pub use read_list::{as_operation_list, descriptors_in, plan_read_list};
-pub use resuming::{resume_any_list, resume_operation_list, resume_read_list};
+pub use resuming::{resume_any_list, resume_operation_list};
 pub use submitting::{PlannedOperations, plan_entries, plan_operation_list};

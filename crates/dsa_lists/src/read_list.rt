@@ -10,6 +10,7 @@ ghost use Rattle.dsa_calls.specs.Lists.{OrMemory};
 ghost use Rattle.dsa_operations.specs.Operations.{OperationConflictAt};
 ghost use Rattle.dsa_operations.specs.declared.operation.Operation.TheVariants as operation;
 ghost use Rattle.dsa_lists.specs.ReadLists.{AreDescriptors, PlansEntire, PlansRead, PlansSplit, planned_pieces_of};
+ghost use Rattle.dsa_lists.specs.Resuming.{LeavesLists};
 
 use crate::pieces::{AnyPlanned, operations_of};
 use crate::submitting::plan_entries;
@@ -96,8 +97,10 @@ fn plan_split(
     list: &DescriptorList,
     settings: &Settings,
 ) -> Result<AnyPlanned, PlanFault>
-    ensures { OrMemory planned_pieces_of (PlansSplit
+    ensures answer { OrMemory planned_pieces_of (PlansSplit
         settings.now list.now.descriptors.items list.now.barriers.items) result }
+    ensures marked { IfOk result
+        (λ p. p.barriers.items ≢ [] → length p.barriers.items ≡ length p.operations.items) }
 {
     let planned = plan_operations(alloc, list, settings)?;
     Ok(AnyPlanned {
@@ -114,8 +117,10 @@ fn plan_entire(
     list: &OperationList,
     settings: &Settings,
 ) -> Result<AnyPlanned, PlanFault>
-    ensures { OrMemory planned_pieces_of (PlansEntire
+    ensures answer { OrMemory planned_pieces_of (PlansEntire
         settings.now list.now.entries.items list.now.barriers.items) result }
+    ensures marked { IfOk result
+        (λ p. p.barriers.items ≢ [] → length p.barriers.items ≡ length p.operations.items) }
 {
     let planned = plan_entries(alloc, list, settings)?;
     Ok(AnyPlanned {
@@ -128,7 +133,8 @@ fn plan_entire(
 
 /// Plans operations that were read already, as [`plan_any_list`](crate::plan_any_list()) plans those that bytes spell:
 /// descriptors alone as [`plan_operations`] does, which splits long ones, and others as [`plan_entries`] does, which
-/// splits none. It returns the pieces as operations, with their plan and what it costs.
+/// splits none. It returns the pieces as operations, with their plan and what it costs. What is left of them after a
+/// failure is found by [`resume_pieces`](dsa_resume::resume_pieces()).
 ///
 /// # Errors
 /// As the one of the two reports it.
@@ -144,6 +150,10 @@ pub fn plan_read_list(
         (WithBarriers (OperationConflictAt p.operations.items) p.barriers.items)
         settings.now.greatest_batch (length p.operations.items) p.plan) }
     ensures few { IfOk result (λ p. length p.operations.items ≤ most_pieces) }
+    ensures marked { IfOk result
+        (λ p. p.barriers.items ≢ [] → length p.barriers.items ≡ length p.operations.items) }
+    // What is left of them after a failure can be planned with the same settings.
+    ensures again { IfOk result (λ p. LeavesLists settings.now (planned_pieces_of p)) }
 {
     match descriptors_in(alloc, list)? {
         Some(descriptors) => plan_split(alloc, &descriptors, settings),

@@ -6,16 +6,14 @@ ghost use Rattle.dsa_calls.specs.declared.fault.PlanFault.TheVariants.{List as I
 ghost use Rattle.dsa_resume.specs.declared.fault.ResumeFault.TheVariants.{Plan};
 ghost use Rattle.dsa_resume.specs.Rest.{remainder_of};
 ghost use Rattle.dsa_resume.specs.Resumed.{IsAnswer};
-ghost use Rattle.dsa_lists.specs.Resuming.{IsListAgain, ResumesAnyList, ResumesEntire, ResumesOperationList, ResumesRead, ResumesSplit, as_operations};
+ghost use Rattle.dsa_lists.specs.Resuming.{IsListAgain, ResumesAnyList, ResumesOperationList, as_operations};
 
 use crate::checking::ready_operations;
 use crate::pieces::operations_of;
-use crate::read_list::descriptors_in;
-use crate::submitting::refusal;
 use dsa_calls::PlanFault;
-use dsa_descriptor::{Descriptor, DescriptorList};
-use dsa_operations::{Operation, OperationList};
-use dsa_resume::{LeftOrder, Rest, ResumeFault, resume_list, resume_operations, resume_pieces};
+use dsa_descriptor::Descriptor;
+use dsa_operations::Operation;
+use dsa_resume::{LeftOrder, Rest, ResumeFault, resume_list, resume_pieces};
 use dsa_settings::Settings;
 use std::alloc::{AllocError, Global};
 
@@ -94,72 +92,5 @@ pub fn resume_any_list(
             }
             Err(fault)
         }
-    }
-}
-
-/// What is left of descriptors, which are split, as operations.
-fn resume_split(
-    alloc: Global,
-    list: &DescriptorList,
-    settings: &Settings,
-    records: &[u8],
-    given_up: &[u8],
-    order: LeftOrder,
-) -> Result<Rest<Operation>, ResumeFault>
-    ensures answer { IsAnswer (ResumesSplit settings.now list.now.descriptors.items
-        list.now.barriers.items records.now given_up.now order) result }
-    ensures again { IfOk result (λ rest. IsListAgain settings.now (remainder_of rest)) }
-{
-    match resume_operations(alloc, list, settings, records, given_up, order) {
-        Ok(rest) => match as_operations(alloc, rest) {
-            Ok(rest) => Ok(rest),
-            Err(_) => Err(ResumeFault::Plan(PlanFault::Memory)),
-        },
-        Err(fault) => Err(fault),
-    }
-}
-
-/// What is left of operations that are planned as they are.
-fn resume_entire(
-    alloc: Global,
-    list: &OperationList,
-    settings: &Settings,
-    records: &[u8],
-    given_up: &[u8],
-    order: LeftOrder,
-) -> Result<Rest<Operation>, ResumeFault>
-    ensures answer { IsAnswer (ResumesEntire settings.now list.now.entries.items
-        list.now.barriers.items records.now given_up.now order) result }
-    ensures again { IfOk result (λ rest. IsListAgain settings.now (remainder_of rest)) }
-{
-    if let Some(fault) = refusal(&list.entries, settings) {
-        return Err(ResumeFault::Plan(fault));
-    }
-    let (entries, barriers) = (&list.entries, &list.barriers);
-    resume_pieces(alloc, entries, barriers, records, given_up, order)
-}
-
-/// What is left of operations that were read already, as [`resume_any_list`] finds it of those that bytes spell.
-///
-/// # Errors
-/// What planning refuses of the operations, as [`plan_read_list`](crate::plan_read_list()) reports it; else what
-/// [`resume_pieces`] refuses.
-pub fn resume_read_list(
-    alloc: Global,
-    list: &OperationList,
-    settings: &Settings,
-    records: &[u8],
-    given_up: &[u8],
-    order: LeftOrder,
-) -> Result<Rest<Operation>, ResumeFault>
-    ensures answer { IsAnswer (ResumesRead settings.now list.now.entries.items
-        list.now.barriers.items records.now given_up.now order) result }
-    // What is left can be planned with the same settings.
-    ensures again { IfOk result (λ rest. IsListAgain settings.now (remainder_of rest)) }
-{
-    match descriptors_in(alloc, list) {
-        Ok(Some(found)) => resume_split(alloc, &found, settings, records, given_up, order),
-        Ok(None) => resume_entire(alloc, list, settings, records, given_up, order),
-        Err(_) => Err(ResumeFault::Plan(PlanFault::Memory)),
     }
 }

@@ -77,14 +77,14 @@ counted_chunks n zero bytes = refl
 counted_chunks n (suc k) bytes = ap suc (counted_chunks n k (drop n bytes))
 
 -- what is left of pieces, as it is answered
-pub rest_of_answer : {P : Type 0} (writes : P → List Span) (order : LeftOrder) (l : Stopped P) (rest : Rest P) → ResumesPieces writes order l (Ok (remainder_of rest))
-    → (length (ends_in l) ≡ length l.pieces) × IsLeftOver order l.pieces l.barriers (ends_in l) (remainder_of rest)
+pub rest_of_answer : {P : Type 0} (writes : P → List Span) (order : LeftOrder) (l : Stopped P) (rest : Remainder P) → ResumesPieces writes order l (Ok rest)
+    → (length (ends_in l) ≡ length l.pieces) × IsLeftOver order l.pieces l.barriers (ends_in l) rest
 rest_of_answer writes order l rest (lacks_records other is) = cc
 rest_of_answer writes order l rest (shares_record i j count first is) = cc
 rest_of_answer writes order l rest (gives_up_other i told first is) = cc
 rest_of_answer writes order l rest (passes_barrier i j told none first is) = cc
 rest_of_answer {P} writes order l rest (has_left rest' told none left is) =
-    let same : rest' ≡ remainder_of rest = cc in (
+    let same : rest' ≡ rest = cc in (
       length-ends (completions_of l) l.given_up ∙ counted_chunks 32 (length l.pieces) l.records,
       subst (λ (r : Remainder P). IsLeftOver order l.pieces l.barriers (ends_in l) r) same left,
     )
@@ -93,6 +93,6 @@ rest_of_answer {P} writes order l rest (has_left rest' told none left is) =
 pub again_if_left : (s : Limits) (order : LeftOrder) (l : Stopped Descriptor) → CanBePlanned s (map fields l.pieces) → (l.barriers ≢ [] → length l.barriers ≡ length l.pieces)
     → (r : Result (Rest Descriptor) ResumeFault) → IsAnswer (ResumesPieces writes_of order l) r → IfOk r (λ rest. CanBePlannedAgain s (remainder_of rest))
 again_if_left s order l can marked (Ok rest) answer =
-    let (count, left) = rest_of_answer writes_of order l rest answer in
+    let (count, left) = rest_of_answer writes_of order l (remainder_of rest) answer in
     left_again s order l.pieces l.barriers (ends_in l) (remainder_of rest) can marked count left
 again_if_left s order l can marked (Err fault) answer = tt

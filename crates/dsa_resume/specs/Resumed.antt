@@ -4,17 +4,15 @@ use Rattle.std.specs.Simd.{first_chunks}
 use Rattle.dsa_descriptor.specs.declared.descriptor.Descriptor.{Descriptor}
 use Rattle.dsa_descriptor.specs.Descriptors.{fields}
 use Rattle.dsa_descriptor.specs.Fences.{after_first, marked_spelling, set_marks}
-use Rattle.dsa_descriptor.specs.Fields.{Fields}
 use Rattle.dsa_descriptor.specs.Lists.{HaveOneOwner}
 use Rattle.dsa_descriptor.specs.declared.span.Span.{Span}
 use Rattle.dsa_ranges.specs.Pieces.{writes_of}
 use Rattle.dsa_settings.specs.Settings.{Limits}
-use Rattle.dsa_splitter.specs.Pieces.{all_pieces, piece_barriers}
+use Rattle.dsa_splitter.specs.Pieces.{all_pieces}
 use Rattle.dsa_splitter.specs.Rules.{AreWhole, IsSplit}
 use Rattle.dsa_calls.specs.declared.fault.PlanFault.{PlanFault}
 use Rattle.dsa_calls.specs.declared.fault.PlanFault.TheVariants.{Memory}
 use Rattle.dsa_calls.specs.Fenced.{AreFencedPieces, PlansFenced, PlansWith}
-use Rattle.dsa_calls.specs.Planned.{PlansOperations}
 use Rattle.dsa_resume.specs.declared.fault.ResumeFault.{ResumeFault}
 use Rattle.dsa_resume.specs.declared.fault.ResumeFault.TheVariants.{Plan, Records, SharedRecord, NotFailed, PassedBarrier}
 use Rattle.dsa_resume.specs.declared.left.LeftOrder.{LeftOrder}
@@ -60,15 +58,6 @@ pub data ResumesPieces {P : Type 0} (writes : P → List Span) (order : LeftOrde
       → outcome ≡ Err (PassedBarrier i j) → ResumesPieces writes order l outcome
   has_left : (rest : Remainder P) → AreTold writes l → NoneIsIdle (completions_of l) l.given_up → IsLeftOver order l.pieces l.barriers (ends_in l) rest
       → outcome ≡ Ok rest → ResumesPieces writes order l outcome
-
--- the outcome for operations with barriers: what planning refuses of them before they have pieces, or that for their pieces
-pub data ResumesOperations (s : Limits) (operations : List Fields) (barriers : List Bool) (records given_up : List ℕ) (order : LeftOrder) (outcome : Result (Remainder Descriptor) ResumeFault) : Type 0 where
-  are_refused : (fault : PlanFault) → PlansOperations s operations (Err fault) → outcome ≡ Err (Plan fault)
-      → ResumesOperations s operations barriers records given_up order outcome
-  have_pieces : (pieces : List Descriptor) → IsSplit s.greatest_transfer s.staging operations
-      → map fields pieces ≡ all_pieces operations s.greatest_transfer
-      → ResumesPieces writes_of order (record { pieces = pieces; barriers = piece_barriers s.greatest_transfer operations barriers; records = records; given_up = given_up }) outcome
-      → ResumesOperations s operations barriers records given_up order outcome
 
 -- the outcome for the bytes of a list, in which a fence is a barrier
 pub data Resumes (s : Limits) (list records given_up : List ℕ) (order : LeftOrder) (outcome : Result (Remainder Descriptor) ResumeFault) : Type 0 where

@@ -18,6 +18,6 @@ pub use laws::{
 };
 pub use left::LeftOrder;
 pub use rest::{LeftOut, Rest};
-pub use resuming::{resume_list, resume_operations, resume_pieces};
+pub use resuming::{resume_list, resume_pieces};
 pub use shared::last_shared;
 pub use status::{Ended, how_ended};

@@ -1,14 +1,13 @@
 //! What is left of a list that was submitted and has stopped.
 
-ghost use Rattle.std.specs.Prelude.{◌≡◌, ◌≢◌, ◌≤◌, ◌⊎◌, [], ℕ, IfOk, MatchResult, length, map};
-ghost use Rattle.dsa_descriptor.specs.Descriptors.{fields};
+ghost use Rattle.std.specs.Prelude.{◌≡◌, ◌≢◌, ◌≤◌, ◌⊎◌, [], ℕ, IfOk, MatchResult, length};
 ghost use Rattle.dsa_descriptor.specs.Pieces.{most_pieces};
 ghost use Rattle.dsa_calls.specs.declared.fault.PlanFault.TheVariants.{Memory};
 ghost use Rattle.dsa_resume.specs.declared.fault.ResumeFault.TheVariants.{PassedBarrier, Plan};
 ghost use Rattle.dsa_resume.specs.Barriers.{IsFirstPassed};
 ghost use Rattle.dsa_resume.specs.Ended.{ends_of};
 ghost use Rattle.dsa_resume.specs.Rest.{IsLeftOver, remainder_of};
-ghost use Rattle.dsa_resume.specs.Resumed.{CanBePlannedAgain, IsAnswer, Resumes, ResumesOperations, ResumesPieces};
+ghost use Rattle.dsa_resume.specs.Resumed.{CanBePlannedAgain, IsAnswer, Resumes, ResumesPieces};
 
 use crate::barriers::{first_passed, front_of};
 use crate::ends::{ends_of, first_idle};
@@ -17,10 +16,9 @@ use crate::left::LeftOrder;
 use crate::rest::{Rest, rest_of};
 use crate::shared::first_shared;
 use dsa_calls::{PlanFault, fenced_pieces};
-use dsa_descriptor::{Descriptor, DescriptorList};
+use dsa_descriptor::Descriptor;
 use dsa_ranges::Piece;
 use dsa_settings::Settings;
-use dsa_splitter::split;
 use std::alloc::Global;
 
 /// What is left of the list whose pieces have the completion records: the pieces that have not finished, in this order,
@@ -51,31 +49,6 @@ pub fn resume_list(
     let pieces = match fenced_pieces(alloc, list, settings) {
         Ok(pieces) => pieces,
         Err(fault) => return Err(ResumeFault::Plan(fault)),
-    };
-    let (descriptors, barriers) = (&pieces.descriptors, &pieces.barriers);
-    resume_pieces(alloc, descriptors, barriers, records, given_up, order)
-}
-
-/// The same for operations and their barriers: for callers that have read a list already.
-///
-/// # Errors
-/// Those of [`resume_list`].
-pub fn resume_operations(
-    alloc: Global,
-    operations: &DescriptorList,
-    settings: &Settings,
-    records: &[u8],
-    given_up: &[u8],
-    order: LeftOrder,
-) -> Result<Rest<Descriptor>, ResumeFault>
-    ensures answer { IsAnswer (ResumesOperations settings.now
-        (map fields operations.now.descriptors.items) operations.now.barriers.items
-        records.now given_up.now order) result }
-    ensures again { IfOk result (λ rest. CanBePlannedAgain settings.now (remainder_of rest)) }
-{
-    let pieces = match split(alloc, operations, settings) {
-        Ok(pieces) => pieces,
-        Err(fault) => return Err(ResumeFault::Plan(PlanFault::from(fault))),
     };
     let (descriptors, barriers) = (&pieces.descriptors, &pieces.barriers);
     resume_pieces(alloc, descriptors, barriers, records, given_up, order)

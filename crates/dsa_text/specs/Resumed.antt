@@ -3,13 +3,14 @@ use Rattle.std.specs.Prelude.{◌≡◌, ◌⊎◌, ◌++◌, ℕ, Bool, List, S
 use Rattle.dsa_descriptor.specs.Lists.{AreOfOneOwner}
 use Rattle.dsa_operations.specs.declared.operation.Operation.{Operation}
 use Rattle.dsa_operations.specs.OperationFields.{operation_fields}
-use Rattle.dsa_operations.specs.Operations.{spelling_of}
-use Rattle.dsa_lists.specs.Resuming.{ResumesRead}
+use Rattle.dsa_operations.specs.Operations.{spelling_of, writes_of}
+use Rattle.dsa_lists.specs.ReadLists.{PlannedPieces, PlansRead}
 use Rattle.dsa_settings.specs.Settings.{Limits}
 use Rattle.dsa_lines.specs.declared.fault.TextFault.{TextFault}
 use Rattle.dsa_lines.specs.Barriers.{barriers_of, list_text}
 use Rattle.dsa_lines.specs.TextLists.{IsFirstTextFault}
 use Rattle.dsa_lines.specs.Texts.{all_fields, lines_of}
+use Rattle.dsa_calls.specs.declared.fault.PlanFault.{PlanFault}
 use Rattle.dsa_calls.specs.declared.fault.PlanFault.TheVariants.{Memory}
 use Rattle.dsa_calls.specs.Fault.{indices_text}
 use Rattle.dsa_resume.specs.declared.fault.ResumeFault.{ResumeFault}
@@ -17,6 +18,7 @@ use Rattle.dsa_resume.specs.declared.fault.ResumeFault.TheVariants.{Plan, NotFai
 use Rattle.dsa_resume.specs.declared.left.LeftOrder.{LeftOrder}
 use Rattle.dsa_resume.specs.Causes.{resume_indices, resume_name, resume_number}
 use Rattle.dsa_resume.specs.Rest.{Remainder}
+use Rattle.dsa_resume.specs.Resumed.{ResumesPieces, Stopped}
 use Rattle.dsa_advice.specs.declared.answer.Answer.{Answer}
 use Rattle.dsa_advice.specs.Refusals.{IsRefusal, RefusesText}
 
@@ -28,7 +30,8 @@ resume_words fault = decimal (resume_number fault) ++ (codes " " ++ (resume_name
 abbrev pub NamesResume : ResumeFault → List ℕ → Type 0
 NamesResume fault message = (front : List ℕ) × (message ≡ front ++ (codes " [" ++ (resume_words fault ++ codes "]\n")))
 
--- the refusal that planning gives, or one of what is said of the pieces
+-- the refusal for this cause: an allocation failed, or one of the records, a record that is shared, what is given up, and
+-- barriers
 abbrev pub IsResumeRefusal : ResumeFault → Answer → Type 0
 IsResumeRefusal (Plan fault) a = IsRefusal fault a
 IsResumeRefusal Records a = (a.status ≡ 1) × NamesResume Records (string_bytes a.text)
@@ -47,14 +50,23 @@ pub record IsListedText (text : List ℕ) (keep_fences : Bool) (operations : Lis
   pub one_owner : AreOfOneOwner spelling_of operations
   pub barriers_are : barriers ≡ barriers_of keep_fences (lines_of text)
 
--- The answer to a text, to records and to what is given up: the refusal of a text that spells no list, or of its list or
--- what is said of it; or the text of what is left.
+-- these pieces with their barriers have stopped, with these records and with what is given up
+abbrev pub stopped : PlannedPieces → List ℕ → List ℕ → Stopped Operation
+stopped p records given_up = record { pieces = p.pieces; barriers = p.barriers; records = records; given_up = given_up }
+
+-- The answer to a text, to records and to what is given up: the refusal of a text that spells no list, of a list that can't
+-- be planned, or of the records and of what is given up; or the text of what is left.
 pub data ResumesText (text : List ℕ) (keep_fences : Bool) (s : Limits) (records given_up : List ℕ) (order : LeftOrder) (a : Answer) : Type 0 where
   is_no_list : (fault : TextFault) → IsFirstTextFault (lines_of text) fault → RefusesText fault a
       → ResumesText text keep_fences s records given_up order a
-  is_refused : (operations : List Operation) (barriers : List Bool) (fault : ResumeFault) → IsListedText text keep_fences operations barriers
-      → (fault ≡ Plan Memory) ⊎ ResumesRead s operations barriers records given_up order (Err fault)
+  is_unplanned : (operations : List Operation) (barriers : List Bool) (fault : PlanFault) → IsListedText text keep_fences operations barriers
+      → (fault ≡ Memory) ⊎ PlansRead s operations barriers (Err fault)
+      → IsRefusal fault a → ResumesText text keep_fences s records given_up order a
+  is_refused : (operations : List Operation) (barriers : List Bool) (p : PlannedPieces) (fault : ResumeFault) → IsListedText text keep_fences operations barriers
+      → PlansRead s operations barriers (Ok p)
+      → (fault ≡ Plan Memory) ⊎ ResumesPieces writes_of order (stopped p records given_up) (Err fault)
       → IsResumeRefusal fault a → ResumesText text keep_fences s records given_up order a
-  has_left : (operations : List Operation) (barriers : List Bool) (rest : Remainder Operation) → IsListedText text keep_fences operations barriers
-      → ResumesRead s operations barriers records given_up order (Ok rest)
+  has_left : (operations : List Operation) (barriers : List Bool) (p : PlannedPieces) (rest : Remainder Operation) → IsListedText text keep_fences operations barriers
+      → PlansRead s operations barriers (Ok p)
+      → ResumesPieces writes_of order (stopped p records given_up) (Ok rest)
       → IsRestText rest a → ResumesText text keep_fences s records given_up order a

@@ -19,10 +19,10 @@ use dsa_advice::{
 use dsa_descriptor::MOST_PIECES;
 use dsa_forms::is_text;
 use dsa_lines::{TextList, parse_text, text_with_barriers};
-use dsa_lists::resume_read_list;
+use dsa_lists::{AnyPlanned, plan_read_list};
 use dsa_operations::Operation;
 use dsa_plan::Settings;
-use dsa_resume::{LeftOrder, Rest, ResumeFault};
+use dsa_resume::{LeftOrder, Rest, ResumeFault, resume_pieces};
 use std::alloc::{AllocError, Global};
 use std::process::ExitCode;
 
@@ -116,7 +116,8 @@ fn given_up_of(alloc: Global, word: Option<&str>) -> Result<Option<Vec<u8>>, All
     }
 }
 
-/// The lines of what is left of the list that a text spells, and what the text lists, if it spells a list.
+/// The lines of what is left of the list that a text spells; and what the text lists and its plan, if it can be
+/// planned.
 fn resume_text<'a>(
     alloc: Global,
     text: &'a [u8],
@@ -125,7 +126,7 @@ fn resume_text<'a>(
     records: &[u8],
     given_up: &[u8],
     order: LeftOrder,
-) -> Result<(Answer, Option<TextList<'a>>), AllocError>
+) -> Result<(Answer, Option<(TextList<'a>, AnyPlanned)>), AllocError>
     ensures { IfOk result (λ found. ResumesText text.now keep_fences settings.now records.now
         given_up.now order found.0) }
 {
@@ -133,12 +134,18 @@ fn resume_text<'a>(
         Ok(read) => read,
         Err(fault) => return Ok((Answer::text_fault(alloc, text, fault)?, None)),
     };
-    match resume_read_list(alloc, &read.list, settings, records, given_up, order) {
-        Ok(rest) => Ok((rest_answer(alloc, &rest, records)?, Some(read))),
+    let planned = match plan_read_list(alloc, &read.list, settings) {
+        Ok(planned) => planned,
         Err(fault) => {
-            let refusal = fault_answer(alloc, text, &read, settings, fault)?;
-            Ok((refusal, Some(read)))
+            let source = Source::Text(text, &read.lines);
+            let refusal = refuse_unplanned(alloc, &read.list.entries, settings, source, fault)?;
+            return Ok((refusal, None));
         }
+    };
+    let (pieces, barriers) = (&planned.operations, &planned.barriers);
+    match resume_pieces(alloc, pieces, barriers, records, given_up, order) {
+        Ok(rest) => Ok((rest_answer(alloc, &rest, records)?, Some((read, planned)))),
+        Err(fault) => Ok((fault_answer(alloc, fault)?, Some((read, planned)))),
     }
 }
 
@@ -174,24 +181,12 @@ fn left_out_note(
     )?))
 }
 
-/// The refusal of the list of a text or of what is said of it.
-fn fault_answer(
-    alloc: Global,
-    text: &[u8],
-    read: &TextList<'_>,
-    settings: &Settings,
-    fault: ResumeFault,
-) -> Result<Answer, AllocError>
+/// The refusal for this cause.
+fn fault_answer(alloc: Global, fault: ResumeFault) -> Result<Answer, AllocError>
     ensures { IfOk result (IsResumeRefusal fault) }
 {
     match fault {
-        ResumeFault::Plan(cause) => refuse_unplanned(
-            alloc,
-            &read.list.entries,
-            settings,
-            Source::Text(text, &read.lines),
-            cause,
-        ),
+        ResumeFault::Plan(cause) => Answer::fault(alloc, cause),
         ResumeFault::Records
         | ResumeFault::SharedRecord(_, _)
         | ResumeFault::NotFailed(_)
@@ -244,11 +239,11 @@ fn resume_records(
         return Ok(Answer::refused(String::from_str(alloc, NO_PIECES)?));
     };
     let keep = matches.get_flag("keep-fences");
-    let (answer, read) = resume_text(alloc, text, keep, settings, records, &given_up, order)?;
-    let Some(read) = read else {
+    let (answer, found) = resume_text(alloc, text, keep, settings, records, &given_up, order)?;
+    let Some((read, planned)) = found else {
         return Ok(answer);
     };
-    let notes = resume_notes(alloc, &read, settings, records, &given_up)?;
+    let notes = resume_notes(alloc, &read, &planned, settings, records, &given_up)?;
     if answer.status == 0 {
         return with_notes(answer, joined(passed_over(alloc, &read)?, notes)?);
     }

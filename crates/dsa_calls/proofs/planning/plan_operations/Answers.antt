@@ -1,4 +1,4 @@
-use Rattle.std.proofs.Common.{Bool, List, map, ap, subst, ◌∙◌}
+use Rattle.std.proofs.Common.{Bool, List, length, map, sym, ap, subst, ◌∙◌}
 use Rattle.std.proofs.lemmas.Result.{err_from_is_err_and}
 use Rattle.dsa_descriptor.specs.declared.descriptor.Descriptor.{Descriptor}
 use Rattle.dsa_descriptor.specs.Descriptors.{fields}
@@ -31,3 +31,8 @@ returns-clause-answer c =
 
 pub returns-clause-barriers : goal.returns-clause-barriers
 returns-clause-barriers c = c.in_ok-submission.ensures.barriers ∙ c.in_ok-pieces.ensures.barriers
+
+pub returns-clause-marked : goal.returns-clause-marked
+returns-clause-marked c = λ any.
+    let made = c.in_ok-submission.ensures in
+    ap length made.barriers ∙ c.in_ok-pieces.pieces.marked (λ none. any (made.barriers ∙ none)) ∙ sym (ap length made.same)

@@ -15,7 +15,7 @@ from common import copy_crates, crates, expect, having, patched, run_test
 TESTS = "crates/dsa_tests/src"
 # The crate of the tests, and what they use beside the wrong engines.
 TRIED = "wrong_engines"
-BELOW = ["dsa_core", "dsa_descriptor", "dsa_image", "dsa_plan"]
+BELOW = ["dsa_core", "dsa_descriptor", "dsa_image", "dsa_operations", "dsa_plan", "dsa_ranges", "dsa_settings"]
 
 
 def renamed(folder, name):
@@ -65,8 +65,10 @@ def main(words):
     with tempfile.TemporaryDirectory() as tree:
         # the tests ask whether a plan is legal
         copy_crates("dsa_plan", tree, also=["dsa_core"])
-        Path(tree, "crates", TRIED, "src").mkdir(parents=True)
-        Path(tree, "crates", TRIED, "src", "lib.rt").write_text("//! Tests of wrong engines.\n\n")
+        src = Path(tree, "crates", TRIED, "src")
+        src.mkdir(parents=True)
+        (src / "lib.rt").write_text("//! Tests of wrong engines.\n\n#[cfg(test)]\nmod given;\n")
+        shutil.copy(f"{TESTS}/given.rt", src)
         faults = {patch: add_engines(tree, patch, name) for patch, name in names.items()}
         add_lines(tree, names.values())
         ran = subprocess.run(["rt", "try", "--test"], cwd=f"{tree}/crates/{TRIED}", capture_output=True, text=True)

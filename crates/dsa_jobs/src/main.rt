@@ -13,7 +13,7 @@ use std::process::ExitCode;
 /// Runs the jobs. It looks at no arguments, and writes nothing to standard error. The status is 0 if all was read and
 /// the line of each job was written, whatever the answers are, and 2 if reading or writing failed.
 fn main(rt: HostRuntime) -> ExitCode {
-    drop(large_block(rt.alloc()));
+    drop(large_block(rt.alloc())); // from now on blocks of up to that size are kept, with their pages
     let mut input = rt.reader();
     let mut output = io::writer(&rt);
     let ending = serve_lines(&rt, &mut input, &mut output);

@@ -1,17 +1,13 @@
 //! Runs of operations by several engines, checksums among them.
 
-ghost use Rattle.std.specs.Prelude.{IsTrue};
-ghost use Rattle.dsa_core.specs.Given.{IsReady};
-ghost use Rattle.dsa_core.specs.OperationWork.{operation_work};
-
 use crate::engines::image_of;
+use crate::given::can_run_operations;
 use dsa_checksum::{Variant, checksum};
-use dsa_core::{Outcome, holds_operations, replay_work};
+use dsa_core::{Outcome, replay_work};
 use dsa_engines::{OpenGate, run_operations};
 use dsa_image::Image;
 use dsa_operations::Operation;
-use dsa_plan::{Group, Plan, Settings};
-use dsa_settings::is_legal_with;
+use dsa_plan::{Group, Plan};
 use std::alloc::{AllocError, Global};
 use std::sync::Wait;
 use std::test::Fail;
@@ -59,28 +55,6 @@ fn checked_comparison(first: u64, second: u64, record_at: u64) -> Result<Operati
     }
 }
 
-/// Whether engines can run the operations under the plan, on this image.
-fn can_run(image: &Image, plan: &Plan, pieces: &[Operation], engines: u8) -> bool
-    ensures { IsTrue result → IsReady operation_work image.now plan.now pieces.now engines }
-{
-    if pieces.len() > 65536 {
-        return false;
-    }
-    if engines == 0 {
-        return false;
-    }
-    if engines > 64 {
-        return false;
-    }
-    let Ok(settings) = Settings::new(1024, 4096, 1, 1, 1, 65536) else {
-        return false;
-    };
-    let Ok(()) = is_legal_with(plan, pieces, &[], &settings) else {
-        return false;
-    };
-    holds_operations(image, pieces)
-}
-
 /// What the operations of one batch with these fences leave of these bytes, from address 0 on. The history is replayed,
 /// which has to give the same outcome.
 fn outcome_of<R: Threads + Wait + Sync>(
@@ -95,7 +69,7 @@ fn outcome_of<R: Threads + Wait + Sync>(
     let mut groups = Vec::new(alloc);
     groups.push(Group::new(Vec::from_slice(alloc, fences)?))?;
     let plan = Plan::new(groups);
-    if !can_run(&image, &plan, pieces, engines) {
+    if !can_run_operations(&image, &plan, pieces, engines) {
         return Err(Fail::new("no run"));
     }
     let run = run_operations(rt, alloc, &image, &plan, pieces, engines, &OpenGate);

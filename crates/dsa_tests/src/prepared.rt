@@ -1,4 +1,6 @@
-use crate::given::operation;
+use crate::given::{
+    compare_bytes, delta_bytes, dualcast_bytes, fill_bytes, move_bytes, pattern_bytes,
+};
 use dsa_calls::{PlanFault, plan_list};
 use dsa_descriptor::{ListFault, Span};
 use dsa_plan::Settings;
@@ -120,32 +122,20 @@ fn regions() -> [Span; 4] {
     ]
 }
 
-/// An operation: its code, the numbers at bytes 16 and 24, its size, the offset of its record, and the number at byte
-/// 40.
-type Row = (u8, u64, u64, u32, u32, u64);
-
-/// The bytes of the operation.
-fn row_bytes(records: u64, row: Row) -> [u8; 64] {
-    let (code, first, second, size, record, own) = row;
-    let record_at = records.wrapping_add(u64::from(record));
-    let mut bytes = operation(code, first, second, size, record_at);
-    bytes[40..48].copy_from_slice(&own.to_le_bytes());
-    bytes
-}
-
 /// One of each operation, two of them split into pieces.
 fn one_of_each(alloc: Global, bases: &Bases) -> Result<Vec<u8>, AllocError> {
     let [one, two, three, records] = wide(bases);
+    let record = |offset: u64| records.wrapping_add(offset);
     let mut list = Vec::new(alloc);
-    for row in [
-        (3, one, two, 10_000, 0, 0),
-        (4, 0x102_0304_0506_0708, one, 100, 128, 0),
-        (5, one, two, 64, 160, 1),
-        (6, two, 7, 64, 192, 0),
-        (9, one, two.wrapping_add(0x4000), 5000, 224, three),
-        (8, two, one.wrapping_add(8), 64, 320, 20),
+    for entry in [
+        move_bytes(one, two, 10_000, records),
+        fill_bytes(0x102_0304_0506_0708, one, 100, record(128)),
+        compare_bytes(one, two, 64, record(160)),
+        pattern_bytes(two, 7, 64, record(192)),
+        dualcast_bytes(one, two.wrapping_add(0x4000), three, 5000, record(224)),
+        delta_bytes(two, one.wrapping_add(8), 64, record(320)),
     ] {
-        list.extend_from_slice(&row_bytes(records, row))?;
+        list.extend_from_slice(&entry)?;
     }
     Ok(list)
 }
@@ -315,8 +305,8 @@ fn next(state: u64) -> u64 {
     b ^ b.wrapping_shl(17)
 }
 
-/// An operation made from the bits of a number, whose data and whose record, at this offset, lie in the buffers.
-fn some_row(bits: u64, data: &[u64; 3], record: u32) -> Row {
+/// The bytes of an operation that is made from the bits of a number, with its data in the buffers.
+fn some_operation(bits: u64, data: &[u64; 3], record_at: u64) -> [u8; 64] {
     let place = (bits >> 8) % 0x1000;
     let other = (bits >> 20) % 0x1000;
     let size = 1 + ((bits >> 32) % 5000) as u32;
@@ -327,30 +317,14 @@ fn some_row(bits: u64, data: &[u64; 3], record: u32) -> Row {
         2 => (two.wrapping_add(place), one.wrapping_add(other)),
         _ => (three.wrapping_add(place), one.wrapping_add(other)),
     };
+    let (low, low2) = (two.wrapping_add(place), three.wrapping_add(place));
     match bits % 6 {
-        0 => (3, src, dst, size, record, 0),
-        1 => (4, bits, dst, size, record, 0),
-        2 => (5, src, dst, size, record, 1),
-        3 => (6, src, bits, size, record, 0),
-        4 => {
-            let low = two.wrapping_add(place);
-            (
-                9,
-                one.wrapping_add(other),
-                low,
-                size,
-                record,
-                three.wrapping_add(place),
-            )
-        }
-        _ => (
-            8,
-            two.wrapping_add(place),
-            one.wrapping_add(other / 8 * 8),
-            64,
-            record,
-            20,
-        ),
+        0 => move_bytes(src, dst, size, record_at),
+        1 => fill_bytes(bits, dst, size, record_at),
+        2 => compare_bytes(src, dst, size, record_at),
+        3 => pattern_bytes(src, bits, size, record_at),
+        4 => dualcast_bytes(one.wrapping_add(other), low, low2, size, record_at),
+        _ => delta_bytes(low, one.wrapping_add(other / 8 * 8), 64, record_at),
     }
 }
 
@@ -359,10 +333,10 @@ fn some_list(alloc: Global, seed: u64, bases: &Bases) -> Result<Vec<u8>, AllocEr
     let [one, two, three, records] = wide(bases);
     let mut list = Vec::new(alloc);
     let mut bits = seed;
-    for k in 0..1 + (seed % 12) as u32 {
+    for k in 0..1 + seed % 12 {
         bits = next(bits);
-        let row = some_row(bits, &[one, two, three], 64 * k);
-        list.extend_from_slice(&row_bytes(records, row))?;
+        let record_at = records.wrapping_add(64 * k);
+        list.extend_from_slice(&some_operation(bits, &[one, two, three], record_at))?;
     }
     Ok(list)
 }

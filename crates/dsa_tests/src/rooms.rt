@@ -1,15 +1,14 @@
 //! Traces, rooms and parcels of small lists.
 
-ghost use Rattle.std.specs.Prelude.{◌≡◌, IfOk, IsTrue};
-ghost use Rattle.dsa_core.specs.Given.{IsRunnable};
+ghost use Rattle.std.specs.Prelude.{◌≡◌, IfOk};
 
-use crate::given::{descriptor, put};
+use crate::given::{can_run, descriptor, put};
 use dsa_core::{
     CoreFault, Event, Finished, Kind, Lined, Outcome, Parcel, Room, Stale, Taken, replay,
 };
 use dsa_descriptor::{Descriptor, Record};
 use dsa_image::Image;
-use dsa_plan::{Group, Plan, Settings, is_legal};
+use dsa_plan::{Group, Plan};
 use std::alloc::Global;
 use std::process::Abort;
 use std::test::Fail;
@@ -63,31 +62,6 @@ fn plan_of(alloc: Global, flags: &[bool]) -> Result<Plan, Fail> {
     Ok(Plan::new(groups))
 }
 
-/// Whether a room of these can be made.
-fn is_runnable(image: &Image, plan: &Plan, pieces: &[Descriptor], engines: u8) -> bool
-    ensures { IsTrue result → IsRunnable image.now plan.now pieces.now engines }
-{
-    if pieces.len() > 65536 {
-        return false;
-    }
-    if engines == 0 {
-        return false;
-    }
-    if engines > 64 {
-        return false;
-    }
-    let Ok(settings) = Settings::new(1024, 4096, 0, 0, 0, 0) else {
-        return false;
-    };
-    let Ok(()) = is_legal(plan, pieces, &settings) else {
-        return false;
-    };
-    let Ok(()) = image.holds_all(pieces) else {
-        return false;
-    };
-    true
-}
-
 fn event(engine: u8, kind: Kind, piece: u32) -> Event {
     Event {
         engine,
@@ -124,7 +98,7 @@ fn taken_room<R: Abort>(rt: &R, alloc: Global, first: u8) -> Result<Room, Fail>
     let pieces = moves(0x40)?;
     let image = image_of(0, sources(alloc, first)?)?;
     let plan = plan_of(alloc, &[false, false])?;
-    assert!(rt; is_runnable(&image, &plan, &pieces, 2));
+    assert!(rt; can_run(&image, &plan, &pieces, 2));
     let Ok(mut room) = Room::new(alloc, &image, &plan, &pieces, 2) else {
         return Err(Fail::new("no room"));
     };
@@ -190,7 +164,7 @@ fn halted_after<R: Abort>(rt: &R, alloc: Global, count: usize) -> Result<Room, F
     let pieces = moves(0x40)?;
     let image = image_of(0, sources(alloc, 1)?)?;
     let plan = plan_of(alloc, &[false, false])?;
-    assert!(rt; is_runnable(&image, &plan, &pieces, 2));
+    assert!(rt; can_run(&image, &plan, &pieces, 2));
     let Ok(mut room) = Room::new(alloc, &image, &plan, &pieces, 2) else {
         return Err(Fail::new("no room"));
     };
@@ -332,7 +306,7 @@ fn long_runs_are_refused(rt: HostRuntime) -> Result<(), Fail> {
         let fills = long_fills(rt.alloc(), count)?;
         let pieces = fills.as_slice();
         let plan = lone_pieces(rt.alloc(), pieces.len())?;
-        assert!(rt; is_runnable(&image, &plan, pieces, 1));
+        assert!(rt; can_run(&image, &plan, pieces, 1));
         let room = Room::new(rt.alloc(), &image, &plan, pieces, 1);
         assert!(rt; room.err() == fault, "{count}");
     }

@@ -1,5 +1,5 @@
 -- What explaining answers, by what the calls answer.
-use Rattle.std.proofs.Common.{◌≡◌, ◌≤◌, ◌⊎◌, ◌∙◌, inl, inr, ℕ, Bool, List, [], ap, map, Result, Option, Some, Ok, Err, IfOk, string_bytes, sym, subst, None, length, arith}
+use Rattle.std.proofs.Common.{◌≡◌, ◌≤◌, ◌⊎◌, ◌∙◌, inl, inr, ℕ, Bool, List, [], ◌++◌, ap, map, refl, Result, Option, Some, Ok, Err, IfOk, string_bytes, sym, subst, None, length, arith}
 use Rattle.std.proofs.lemmas.List.{length-map}
 use Rattle.std.proofs.lemmas.Result.{IfOk-weaker}
 use Rattle.dsa_descriptor.specs.declared.descriptor.Descriptor.{Descriptor}
@@ -25,8 +25,9 @@ use Rattle.dsa_reasons.specs.declared.fences.Detail.{Detail}
 use Rattle.dsa_explain.specs.Explained.{CanBeExplained}
 use Rattle.dsa_advice.specs.declared.answer.Answer.{Answer}
 use Rattle.dsa_advice.specs.Refusals.{IsRefusal}
-use Rattle.dsa_advice.specs.Explained.{AnswersJudged, ExplainsOperations, TellsJudged, is_compared, is_refused, is_told, is_waiting}
+use Rattle.dsa_advice.specs.Explained.{AnswersJudged, AnswersWithLeast, ExplainsOperations, IsNamedLeast, TellsJudged, is_compared, is_refused, is_told, is_waiting, least_words}
 use Rattle.dsa_advice.specs.declared.form.Form.{Form}
+use Rattle.dsa_advice.specs.declared.form.Form.TheVariants.{Words, Picture, Json, Waits}
 use Rattle.dsa_advice.specs.declared.shown.Subject.{Subject}
 use Rattle.dsa_advice.specs.Shown.{AnswersPlan, AnswersSubject, CanBeShown, ShowsPlan, TellsPlan, is_shown, is_too_large, is_untracked, unlabelled}
 
@@ -117,6 +118,25 @@ judged_beside s plan ds cost form a b status text (is_waiting waits answers) =
     is_waiting waits (plan_beside s plan (map operation.Descriptor ds) [] unlabelled None form a b status text answers)
 judged_beside s plan ds cost form a b status text (is_told detail told z tells) =
     is_told detail told (status ∙ z) (subst (λ (t : List ℕ). TellsJudged s detail plan ds cost t) (sym (ap string_bytes text)) tells)
+
+-- a given plan by what is shown of its pieces as operations
+pub judged_so : (s : Limits) (x : Subject) (plan : Plan) (ds : List Descriptor) (least : Option ℕ) (cost : ℕ) (form : Form) (a : Answer)
+    → x.plan.now ≡ plan → x.pieces.now ≡ map operation.Descriptor ds → x.barriers.now ≡ [] → labelling x.labels ≡ unlabelled → x.least ≡ least
+    → IsNamedLeast s (map fields ds) form least → AnswersWithLeast s x cost form a → AnswersJudged s plan ds cost form a
+judged_so s x plan ds least cost (Words detail) a e f g h k named answers =
+    is_told detail refl answers.done (record {
+      words = answers.words;
+      least = least;
+      tells = subject_told s detail x plan (map operation.Descriptor ds) [] unlabelled answers.words e f g h answers.tells;
+      is_least = named;
+      text_is = answers.text_is ∙ ap (λ (n : Option ℕ). answers.words ++ least_words cost n) k;
+    })
+judged_so s x plan ds least cost (Picture range) a e f g h k named answers =
+    is_compared least tt named (subject_answered {E = ℕ} (Ok a) s x plan (map operation.Descriptor ds) [] unlabelled least (Picture range) e f g h k answers)
+judged_so s x plan ds least cost Json a e f g h k named answers =
+    is_compared least tt named (subject_answered {E = ℕ} (Ok a) s x plan (map operation.Descriptor ds) [] unlabelled least Json e f g h k answers)
+judged_so s x plan ds least cost Waits a e f g h k named answers =
+    is_waiting refl (subject_answered {E = ℕ} (Ok a) s x plan (map operation.Descriptor ds) [] unlabelled None Waits e f g h (k ∙ named) answers)
 
 -- of operations that are refused
 pub operations_refused : {E : Type 0} (operations : List Operation) (bs : List Bool) (names : List (List ℕ)) (s : Limits) (form : Form) (fault : PlanFault) (r : Result Answer E)

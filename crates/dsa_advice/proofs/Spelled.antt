@@ -7,7 +7,7 @@ use Rattle.dsa_lines.specs.Numbers.{number_of}
 use Rattle.dsa_settings.specs.Settings.{AreInLimits, BatchPrices, Limits, limits, version_with}
 use Rattle.dsa_settings.specs.Settings.BatchPrices.{BySize, SamePrice}
 use Rattle.dsa_advice.specs.declared.settings.SettingsWords.{SettingsWords}
-use Rattle.dsa_advice.specs.declared.settings.SettingsNumbers.{SettingsNumbers}
+use Rattle.dsa_advice.specs.declared.settings.SpelledNumbers.{SpelledNumbers}
 use Rattle.dsa_advice.specs.Numbers.{numbers_of}
 use Rattle.dsa_advice.specs.SettingsWords.{AreNumbers, GivesSettings, SpellsBatch}
 
@@ -21,11 +21,11 @@ abbrev pub Batch : SettingsWords → BatchPrices → Type 0
 Batch w prices = SpellsBatch w.batch.now (option_map (λ word. word.now) w.batches) prices
 
 -- the settings of these numbers and prices
-abbrev pub limits_with : SettingsNumbers → BatchPrices → Limits
+abbrev pub limits_with : SpelledNumbers → BatchPrices → Limits
 limits_with n prices = limits n.greatest_batch n.greatest_transfer n.lone prices n.fence n.staging
 
 -- words that spell no numbers spell no settings
-pub no_numbers : (w : SettingsWords) → ((n : SettingsNumbers) → AreNumbers w n → ⊥) → GivesSettings w None
+pub no_numbers : (w : SettingsWords) → ((n : SpelledNumbers) → AreNumbers w n → ⊥) → GivesSettings w None
 no_numbers w none s spell ok =
     none (record {
       greatest_batch = s.greatest_batch;
@@ -46,7 +46,7 @@ pub no_batch : (w : SettingsWords) → ((prices : BatchPrices) → Batch w price
 no_batch w none s spell ok = none s.batch spell.batch
 
 -- numbers and prices within their limits are settings
-pub some_settings : (w : SettingsWords) (n : SettingsNumbers) (prices : BatchPrices) (settings : Limits) → AreNumbers w n → Batch w prices
+pub some_settings : (w : SettingsWords) (n : SpelledNumbers) (prices : BatchPrices) (settings : Limits) → AreNumbers w n → Batch w prices
     → settings ≡ limits_with n prices → AreInLimits (limits_with n prices) → GivesSettings w (Some settings)
 some_settings w n prices settings numbers batch is within = (
   record {
@@ -72,7 +72,7 @@ some_settings w n prices settings numbers batch is within = (
 )
 
 -- and those that are not within them are none
-pub no_settings : (w : SettingsWords) (n : SettingsNumbers) (prices : BatchPrices) → AreNumbers w n → ((other : BatchPrices) → Batch w other → other ≡ prices)
+pub no_settings : (w : SettingsWords) (n : SpelledNumbers) (prices : BatchPrices) → AreNumbers w n → ((other : BatchPrices) → Batch w other → other ≡ prices)
     → (AreInLimits (limits_with n prices) → ⊥) → GivesSettings w None
 no_settings w n prices numbers one outside s spell ok =
     let a = same_Some s.greatest_batch n.greatest_batch (sym spell.greatest_batch ∙ numbers.greatest_batch) in

@@ -29,14 +29,15 @@ use Rattle.dsa_calls.specs.Lists.{IsListOf}
 use Rattle.dsa_calls.specs.Planned.{Submission, PlansOperations}
 use Rattle.dsa_lists.specs.ReadLists.{PlannedPieces, PlansRead}
 use Rattle.dsa_reasons.specs.declared.fences.Detail.{Detail}
-use Rattle.dsa_explain.specs.Runs.{Labelling}
+use Rattle.dsa_explain.specs.Runs.{Labelling, labelling}
 use Rattle.dsa_advice.specs.declared.answer.Answer.{Answer}
 use Rattle.dsa_advice.specs.declared.form.Form.{Form}
 use Rattle.dsa_advice.specs.declared.form.Form.TheVariants.{Words, Picture, Json, Waits}
 use Rattle.dsa_advice.specs.Refusals.{IsRefusal, RefusesText}
 use Rattle.dsa_advice.specs.Comments.{names_of}
 use Rattle.dsa_advice.specs.Origins.{origins_from}
-use Rattle.dsa_advice.specs.Shown.{AnswersPlan, TellsPlan, unlabelled}
+use Rattle.dsa_advice.specs.declared.shown.Subject.{Subject}
+use Rattle.dsa_advice.specs.Shown.{AnswersPlan, AnswersSubject, TellsPlan, unlabelled}
 
 -- an allocation failed, or this is a cause
 abbrev pub MemoryOr : (PlanFault → Type 0) → PlanFault → Type 0
@@ -128,3 +129,26 @@ pub data ExplainsJudged (list : List ℕ) (plan : Plan) (s : Limits) (form : For
   is_refused_judge : (fault : PlanFault) → MemoryOr (λ f. Judges list plan s (Err f)) fault → IsRefusal fault a → ExplainsJudged list plan s form a
   is_judged : (cost : ℕ) (ds : List Descriptor) → IsListOf list ds → JudgesPieces (map fields ds) plan s (Ok cost)
       → AnswersJudged s plan ds cost form a → ExplainsJudged list plan s form a
+
+-- ---- for private clauses
+
+-- what a least plan costs, as far as a form names it
+abbrev pub IsNamedLeast : Limits → List Fields → Form → Option ℕ → Type 0
+IsNamedLeast s fs (Words detail) least = IsLeastCost s fs least
+IsNamedLeast s fs (Picture range) least = IsLeastCost s fs least
+IsNamedLeast s fs Json least = IsLeastCost s fs least
+IsNamedLeast s fs Waits least = least ≡ None
+
+-- a plan in words, and after them the line of the least cost
+pub record TellsWithLeast (s : Limits) (detail : Detail) (x : Subject) (cost : ℕ) (a : Answer) : Type 0 where
+  pub done : a.status ≡ 0
+  pub words : List ℕ
+  pub tells : TellsPlan s detail x.plan.now x.pieces.now x.barriers.now (labelling x.labels) words
+  pub text_is : string_bytes a.text ≡ words ++ least_words cost x.least
+
+-- a plan in a form, with the least cost
+abbrev pub AnswersWithLeast : Limits → Subject → ℕ → Form → Answer → Type 0
+AnswersWithLeast s x cost (Words detail) a = TellsWithLeast s detail x cost a
+AnswersWithLeast s x cost (Picture range) a = AnswersSubject s x (Picture range) a
+AnswersWithLeast s x cost Json a = AnswersSubject s x Json a
+AnswersWithLeast s x cost Waits a = AnswersSubject s x Waits a

@@ -5,7 +5,7 @@ use Rattle.dsa_settings.specs.Settings.BatchPrices.{BySize, SamePrice}
 use Rattle.dsa_lines.specs.Numbers.{number_of, size_of}
 use Rattle.dsa_report.specs.Settings.{SettingsText, AreSettings, limits_of}
 use Rattle.dsa_advice.specs.declared.settings.SettingsWords.{SettingsWords}
-use Rattle.dsa_advice.specs.declared.settings.SettingsNumbers.{SettingsNumbers}
+use Rattle.dsa_advice.specs.declared.settings.SpelledNumbers.{SpelledNumbers}
 use Rattle.dsa_advice.specs.Numbers.{numbers_of}
 
 -- one price for all batches; or prices by size, if there are words for them
@@ -32,7 +32,7 @@ GivesSettings w None = (s : SettingsText) → SpellSettings w s → ¬ AreSettin
 -- ---- for private clauses
 
 -- the words spell these numbers
-pub record AreNumbers (w : SettingsWords) (n : SettingsNumbers) : Type 0 where
+pub record AreNumbers (w : SettingsWords) (n : SpelledNumbers) : Type 0 where
   pub greatest_batch : number_of w.greatest_batch.now ≡ Some n.greatest_batch
   pub greatest_transfer : size_of w.greatest_transfer.now ≡ Some n.greatest_transfer
   pub lone : number_of w.lone.now ≡ Some n.lone

@@ -1,6 +1,7 @@
 //! Notes on addresses in decimal digits that may be meant otherwise.
 
 use crate::unplanned::Source;
+use crate::words::word_from;
 use dsa_lines::number_of;
 use std::alloc::{AllocError, Global};
 
@@ -75,23 +76,24 @@ impl<'a> Addresses<'a> {
 
     /// Adds the addresses of a line without its comment.
     fn push_line(&mut self, line: usize, text: &'a [u8]) {
-        let mut column: usize = 1;
+        let mut from: usize = 1;
         let mut before = [].as_slice();
         let mut is_compare = false;
-        for word in text.split(|byte| matches!(*byte, b' ' | b'\t' | b'\r' | b',')) {
-            if !word.is_empty() {
-                if precedes_address(before, is_compare) {
-                    let found = Decimal {
-                        digits: word,
-                        line,
-                        column,
-                    };
-                    self.push(found, before == b"with".as_slice());
-                }
-                is_compare = is_compare || word == b"compare".as_slice();
-                before = word;
+        for _ in 0..text.len() {
+            let Some((column, word)) = word_from(text, from) else {
+                return;
+            };
+            if precedes_address(before, is_compare) {
+                let found = Decimal {
+                    digits: word,
+                    line,
+                    column,
+                };
+                self.push(found, before == b"with".as_slice());
             }
-            column = column.saturating_add(word.len()).saturating_add(1);
+            is_compare = is_compare || word == b"compare".as_slice();
+            before = word;
+            from = column.saturating_add(word.len());
         }
     }
 }

@@ -4,7 +4,7 @@ ghost use Rattle.std.specs.Prelude.{IfOk};
 ghost use Rattle.dsa_advice.specs.Refusals.{IsRefusal};
 
 use crate::answer::Answer;
-use crate::members::{Members, SETTINGS_MEMBERS, Shape, job_members, settings_members};
+use crate::members::{KnownMembers, SETTINGS_MEMBERS, SeenValue, job_members, settings_members};
 use crate::settings::{SETTINGS, limits_of, member_of};
 use crate::syntax::syntax_fault;
 use crate::words::push_shown;
@@ -37,7 +37,7 @@ fn no_member(alloc: Global, whole: &str, name: &str) -> Result<String, AllocErro
 }
 
 /// What is wrong with the names of an object's members.
-fn names_fault(alloc: Global, members: &Members, whole: &str, names: &[&str]) -> Found {
+fn names_fault(alloc: Global, members: &KnownMembers, whole: &str, names: &[&str]) -> Found {
     for name in names {
         if members.get(name).is_none() {
             return Ok(Some(format!(in alloc; "{whole} lacks the member `{name}`")?));
@@ -50,19 +50,19 @@ fn names_fault(alloc: Global, members: &Members, whole: &str, names: &[&str]) ->
 }
 
 /// The kind that a member of a job has to be of, if it is not.
-fn wrong_kind(name: &str, value: &Shape) -> Option<&'static str> {
+fn wrong_kind(name: &str, value: &SeenValue) -> Option<&'static str> {
     match name {
         "do" | "list" | "portal" | "staging" => {
-            (!matches!(value, Shape::Text(_))).then_some("text")
+            (!matches!(value, SeenValue::Text(_))).then_some("text")
         }
-        "plan" => (!matches!(value, Shape::Array)).then_some("an array of groups"),
-        "settings" | "certificate" => (!matches!(value, Shape::Object)).then_some("an object"),
+        "plan" => (!matches!(value, SeenValue::Array)).then_some("an array of groups"),
+        "settings" | "certificate" => (!matches!(value, SeenValue::Object)).then_some("an object"),
         _ => None,
     }
 }
 
 /// Which of these members of a job is of another kind.
-fn kind_fault(alloc: Global, job: &Members, names: &[&str]) -> Found {
+fn kind_fault(alloc: Global, job: &KnownMembers, names: &[&str]) -> Found {
     for name in names {
         if let Some(kind) = job.get(name).and_then(|value| wrong_kind(name, value)) {
             return Ok(Some(format!(in alloc; "`{name}` is not {kind}")?));
@@ -72,7 +72,7 @@ fn kind_fault(alloc: Global, job: &Members, names: &[&str]) -> Found {
 }
 
 /// Which member of a job is missing, not named for it, or of another kind.
-fn own_fault(alloc: Global, job: &Members) -> Found {
+fn own_fault(alloc: Global, job: &KnownMembers) -> Found {
     let name = job.text("do").unwrap_or("");
     for (known, names) in JOBS {
         if known == name {
@@ -87,16 +87,16 @@ fn own_fault(alloc: Global, job: &Members) -> Found {
 }
 
 /// The kind that a member of settings has to be of, if it is not.
-fn wrong_setting(name: &str, value: &Shape) -> Option<&'static str> {
+fn wrong_setting(name: &str, value: &SeenValue) -> Option<&'static str> {
     match (name, value) {
-        (_, Shape::Whole(_)) | ("batch", Shape::Array) => None,
+        (_, SeenValue::Whole(_)) | ("batch", SeenValue::Array) => None,
         ("batch", _) => Some("a whole number below 2^64 or an array of such"),
         (_, _) => Some("a whole number below 2^64"),
     }
 }
 
 /// Which member of settings is of another kind.
-fn setting_kind_fault(alloc: Global, settings: &Members) -> Found {
+fn setting_kind_fault(alloc: Global, settings: &KnownMembers) -> Found {
     for name in SETTINGS_MEMBERS {
         if let Some(kind) = settings
             .get(name)
@@ -109,7 +109,7 @@ fn setting_kind_fault(alloc: Global, settings: &Members) -> Found {
 }
 
 /// What is wrong with the members of settings.
-fn own_settings_fault(alloc: Global, settings: &Members) -> Found {
+fn own_settings_fault(alloc: Global, settings: &KnownMembers) -> Found {
     match names_fault(alloc, settings, "`settings`", &SETTINGS_MEMBERS)? {
         Some(fault) => Ok(Some(fault)),
         None => setting_kind_fault(alloc, settings),
@@ -117,7 +117,7 @@ fn own_settings_fault(alloc: Global, settings: &Members) -> Found {
 }
 
 /// The same of the members of its settings.
-fn settings_fault(alloc: Global, text: &[u8], job: &Members) -> Found {
+fn settings_fault(alloc: Global, text: &[u8], job: &KnownMembers) -> Found {
     match (job.get("settings"), settings_members(alloc, text)?) {
         (Some(_), Some(settings)) => own_settings_fault(alloc, &settings),
         (Some(_), None) => Ok(Some(String::from_str(alloc, "`settings` is no object")?)),
@@ -143,7 +143,7 @@ fn setting_fault(alloc: Global, text: &[u8]) -> Found {
     };
     for setting in SETTINGS {
         let member = member_of(setting);
-        if let Some(Shape::Whole(number)) = settings.get(member) {
+        if let Some(SeenValue::Whole(number)) = settings.get(member) {
             if !setting.allows(*number) {
                 let limits = limits_of(setting);
                 return Ok(Some(format!(in alloc; "`settings`: `{member}` is no {limits}")?));

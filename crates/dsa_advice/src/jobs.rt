@@ -9,7 +9,7 @@ use crate::answer::Answer;
 use crate::diagnosis::job_fault;
 use crate::explaining::{explain_checked, explain_list};
 use crate::form::Form;
-use crate::judging::explain_judged;
+use crate::given_plan::explain_judged;
 use dsa_calls::PlanFault;
 use dsa_report::{Job, read_job};
 use std::alloc::{AllocError, Global};

@@ -31,7 +31,7 @@ pub(crate) const SETTINGS_MEMBERS: Names = [
 
 /// A value, as far as a diagnosis looks at it.
 #[derive(Drop)]
-pub(crate) enum Shape {
+pub(crate) enum SeenValue {
     /// Text.
     Text(String),
     /// A whole number below 2^64.
@@ -44,49 +44,52 @@ pub(crate) enum Shape {
     Other,
 }
 
-/// Passes over the value that comes next, which has this shape.
-fn passed<F: Format>(from: &mut Deserializer<'_, '_, F>, shape: Shape) -> Result<Shape, F::Error> {
+/// Passes over the value that comes next, which is seen as this.
+fn passed<F: Format>(
+    from: &mut Deserializer<'_, '_, F>,
+    value: SeenValue,
+) -> Result<SeenValue, F::Error> {
     from.skip()?;
-    Ok(shape)
+    Ok(value)
 }
 
-/// The shape of the value that comes next.
-fn shape_of<F: Format>(
+/// The value that comes next.
+fn seen_value<F: Format>(
     alloc: Global,
     from: &mut Deserializer<'_, '_, F>,
-) -> Result<Shape, F::Error> {
+) -> Result<SeenValue, F::Error> {
     match from.peek()? {
-        Kind::Str => Ok(Shape::Text(from.string(alloc)?)),
-        Kind::Unsigned => Ok(Shape::Whole(from.u64()?)),
-        Kind::Seq => passed(from, Shape::Array),
-        Kind::Map => passed(from, Shape::Object),
+        Kind::Str => Ok(SeenValue::Text(from.string(alloc)?)),
+        Kind::Unsigned => Ok(SeenValue::Whole(from.u64()?)),
+        Kind::Seq => passed(from, SeenValue::Array),
+        Kind::Map => passed(from, SeenValue::Object),
         Kind::Unit | Kind::Bool | Kind::Signed | Kind::Float | Kind::Bytes => {
-            passed(from, Shape::Other)
+            passed(from, SeenValue::Other)
         }
     }
 }
 
 /// The members of an object.
 #[derive(Drop)]
-pub(crate) struct Members {
+pub(crate) struct KnownMembers {
     /// The names that are known.
     names: Names,
     /// What is at each of them.
-    shapes: [Option<Shape>; 7],
+    values: [Option<SeenValue>; 7],
     /// The least of all other names.
     other: Option<String>,
 }
 
-impl Members {
+impl KnownMembers {
     /// The members of the object that comes next.
     fn read<F: Format>(
         alloc: Global,
         names: Names,
         from: &mut Deserializer<'_, '_, F>,
-    ) -> Result<Members, F::Error> {
-        let mut members = Members {
+    ) -> Result<KnownMembers, F::Error> {
+        let mut members = KnownMembers {
             names,
-            shapes: [None, None, None, None, None, None, None],
+            values: [None, None, None, None, None, None, None],
             other: None,
         };
         from.begin_map()?;
@@ -95,8 +98,8 @@ impl Members {
                 break;
             }
             let name = from.string(alloc)?;
-            let shape = shape_of(alloc, from)?;
-            members.put(name, shape);
+            let value = seen_value(alloc, from)?;
+            members.put(name, value);
         }
         Ok(members)
     }
@@ -115,11 +118,11 @@ impl Members {
     }
 
     /// Takes a member. Of two members of one name the last counts.
-    fn put(&mut self, name: String, shape: Shape) {
+    fn put(&mut self, name: String, value: SeenValue) {
         match self.place_of(&name) {
             Some(place) => {
-                if let Some(known) = self.shapes.get_mut(place) {
-                    *known = Some(shape);
+                if let Some(known) = self.values.get_mut(place) {
+                    *known = Some(value);
                 }
             }
             None => {
@@ -131,15 +134,16 @@ impl Members {
     }
 
     /// What is at a name that is known.
-    pub(crate) fn get(&self, name: &str) -> Option<&Shape> {
-        self.shapes.get(self.place_of(name)?)?.as_ref()
+    pub(crate) fn get(&self, name: &str) -> Option<&SeenValue> {
+        self.values.get(self.place_of(name)?)?.as_ref()
     }
 
     /// The text at a name that is known.
     pub(crate) fn text(&self, name: &str) -> Option<&str> {
         match self.get(name) {
-            Some(Shape::Text(text)) => Some(text.as_str()),
-            Some(Shape::Whole(_) | Shape::Array | Shape::Object | Shape::Other) | None => None,
+            Some(SeenValue::Text(text)) => Some(text.as_str()),
+            Some(SeenValue::Whole(_) | SeenValue::Array | SeenValue::Object | SeenValue::Other)
+            | None => None,
         }
     }
 
@@ -167,26 +171,26 @@ impl Members {
 
 /// The members of a job.
 #[derive(Drop)]
-struct JobObject(Members);
+struct RefusedJob(KnownMembers);
 
-impl<'de> Deserialize<'de> for JobObject {
+impl<'de> Deserialize<'de> for RefusedJob {
     fn deserialize<F: Format>(
         alloc: Global,
         from: &mut Deserializer<'de, '_, F>,
-    ) -> Result<JobObject, F::Error> {
-        Ok(JobObject(Members::read(alloc, JOB_MEMBERS, from)?))
+    ) -> Result<RefusedJob, F::Error> {
+        Ok(RefusedJob(KnownMembers::read(alloc, JOB_MEMBERS, from)?))
     }
 }
 
 /// The members of the settings of a job, if these are an object.
 #[derive(Drop)]
-struct SettingsObject(Option<Members>);
+struct RefusedSettings(Option<KnownMembers>);
 
-impl<'de> Deserialize<'de> for SettingsObject {
+impl<'de> Deserialize<'de> for RefusedSettings {
     fn deserialize<F: Format>(
         alloc: Global,
         from: &mut Deserializer<'de, '_, F>,
-    ) -> Result<SettingsObject, F::Error> {
+    ) -> Result<RefusedSettings, F::Error> {
         let mut found = None;
         from.begin_map()?;
         for _ in 0..u64::MAX {
@@ -196,7 +200,7 @@ impl<'de> Deserialize<'de> for SettingsObject {
                 None => break,
             }
         }
-        Ok(SettingsObject(found))
+        Ok(RefusedSettings(found))
     }
 }
 
@@ -204,9 +208,9 @@ impl<'de> Deserialize<'de> for SettingsObject {
 fn members_if_any<F: Format>(
     alloc: Global,
     from: &mut Deserializer<'_, '_, F>,
-) -> Result<Option<Members>, F::Error> {
+) -> Result<Option<KnownMembers>, F::Error> {
     if from.peek()? == Kind::Map {
-        return Ok(Some(Members::read(alloc, SETTINGS_MEMBERS, from)?));
+        return Ok(Some(KnownMembers::read(alloc, SETTINGS_MEMBERS, from)?));
     }
     from.skip()?;
     Ok(None)
@@ -222,17 +226,20 @@ fn read<'de, T: Deserialize<'de>>(alloc: Global, text: &'de [u8]) -> Result<Opti
 }
 
 /// The members of a job; none if the text is no object.
-pub(crate) fn job_members(alloc: Global, text: &[u8]) -> Result<Option<Members>, AllocError> {
-    match read::<JobObject>(alloc, text)? {
-        Some(JobObject(members)) => Ok(Some(members)),
+pub(crate) fn job_members(alloc: Global, text: &[u8]) -> Result<Option<KnownMembers>, AllocError> {
+    match read::<RefusedJob>(alloc, text)? {
+        Some(RefusedJob(members)) => Ok(Some(members)),
         None => Ok(None),
     }
 }
 
 /// The members of the settings of a job; none if it has none that are an object.
-pub(crate) fn settings_members(alloc: Global, text: &[u8]) -> Result<Option<Members>, AllocError> {
-    match read::<SettingsObject>(alloc, text)? {
-        Some(SettingsObject(members)) => Ok(members),
+pub(crate) fn settings_members(
+    alloc: Global,
+    text: &[u8],
+) -> Result<Option<KnownMembers>, AllocError> {
+    match read::<RefusedSettings>(alloc, text)? {
+        Some(RefusedSettings(members)) => Ok(members),
         None => Ok(None),
     }
 }

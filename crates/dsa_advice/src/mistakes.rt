@@ -63,7 +63,7 @@ impl Sofar {
 
 /// The lines that are wrong beside one.
 #[derive(Drop)]
-struct Others {
+struct OtherMistakes {
     /// The messages of those before it.
     before: String,
     /// The messages of those after it.
@@ -74,7 +74,7 @@ struct Others {
     count: usize,
 }
 
-impl Others {
+impl OtherMistakes {
     /// Counts a line that is wrong, and names it if not too many are named.
     fn push(
         &mut self,
@@ -105,8 +105,8 @@ impl Others {
 }
 
 /// The lines that are wrong, but for the one of this number.
-fn others_of(alloc: Global, text: &[u8], known: usize) -> Result<Others, AllocError> {
-    let mut others = Others {
+fn others_of(alloc: Global, text: &[u8], known: usize) -> Result<OtherMistakes, AllocError> {
+    let mut others = OtherMistakes {
         before: String::new(alloc),
         after: String::new(alloc),
         named: 0,
@@ -130,7 +130,7 @@ fn others_of(alloc: Global, text: &[u8], known: usize) -> Result<Others, AllocEr
 }
 
 /// How many lines are wrong, with the one that is not among the others, and how many of them are not named.
-fn count_text(alloc: Global, others: &Others) -> Result<String, AllocError> {
+fn count_text(alloc: Global, others: &OtherMistakes) -> Result<String, AllocError> {
     let count = others.count.saturating_add(1);
     let left = others.count.saturating_sub(others.named);
     if left == 0 {

@@ -2,7 +2,7 @@
 //! they read before a record is written there.
 
 use crate::notes::{Notes, push_span};
-use crate::rows::{Row, rows_of};
+use crate::rows::{RecordRow, rows_of};
 use dsa_descriptor::Span;
 use dsa_operations::Operation;
 use dsa_plan::Settings;
@@ -11,16 +11,16 @@ use std::alloc::{AllocError, Global};
 
 /// Data of an operation, and the records of another that it meets.
 #[derive(Clone, Copy)]
-struct Meeting {
+struct DataAtRecords {
     data: Span,
     is_written: bool,
-    row: Row,
+    row: RecordRow,
 }
 
 /// For each of the rows, which are in the order of their addresses, the row that ends last of it and those before it.
-fn farthest_of(alloc: Global, rows: &[Row]) -> Result<Vec<Row>, AllocError> {
+fn farthest_of(alloc: Global, rows: &[RecordRow]) -> Result<Vec<RecordRow>, AllocError> {
     let mut farthest = Vec::with_capacity(alloc, rows.len())?;
-    let mut last: Option<Row> = None;
+    let mut last: Option<RecordRow> = None;
     for row in rows {
         let longest = match last {
             Some(before) if row.span().end() <= before.span().end() => before,
@@ -34,7 +34,7 @@ fn farthest_of(alloc: Global, rows: &[Row]) -> Result<Vec<Row>, AllocError> {
 
 /// A row that shares an address with a span. `farthest` has for each row the row that ends last of it and those before
 /// it.
-fn row_at(rows: &[Row], farthest: &[Row], span: Span) -> Option<Row> {
+fn row_at(rows: &[RecordRow], farthest: &[RecordRow], span: Span) -> Option<RecordRow> {
     let count = rows.partition_point(|row| u128::from(row.span().first) < span.end());
     let row = farthest.get(count.checked_sub(1)?)?;
     if u128::from(span.first) < row.span().end() {
@@ -45,10 +45,14 @@ fn row_at(rows: &[Row], farthest: &[Row], span: Span) -> Option<Row> {
 }
 
 /// The first data that an operation writes which meets the records of another.
-fn written_over(d: &Operation, rows: &[Row], farthest: &[Row]) -> Option<Meeting> {
+fn written_over(
+    d: &Operation,
+    rows: &[RecordRow],
+    farthest: &[RecordRow],
+) -> Option<DataAtRecords> {
     for data in d.targets() {
         if let Some(row) = row_at(rows, farthest, data) {
-            return Some(Meeting {
+            return Some(DataAtRecords {
                 data,
                 is_written: true,
                 row,
@@ -59,10 +63,15 @@ fn written_over(d: &Operation, rows: &[Row], farthest: &[Row]) -> Option<Meeting
 }
 
 /// The first data that an operation reads which meets the records of a later one.
-fn read_before(operation: usize, d: &Operation, rows: &[Row], farthest: &[Row]) -> Option<Meeting> {
+fn read_before(
+    operation: usize,
+    d: &Operation,
+    rows: &[RecordRow],
+    farthest: &[RecordRow],
+) -> Option<DataAtRecords> {
     for data in d.sources() {
         if let Some(row) = row_at(rows, farthest, data).filter(|row| operation < row.operation) {
-            return Some(Meeting {
+            return Some(DataAtRecords {
                 data,
                 is_written: false,
                 row,
@@ -73,19 +82,15 @@ fn read_before(operation: usize, d: &Operation, rows: &[Row], farthest: &[Row]) 
 }
 
 /// The line of an operation whose data meets the records of another.
-fn line_of(alloc: Global, operation: usize, meeting: Meeting) -> Result<String, AllocError> {
-    let holder = meeting.row.operation;
-    let does = if meeting.is_written {
-        "writes"
-    } else {
-        "reads"
-    };
+fn line_of(alloc: Global, operation: usize, found: DataAtRecords) -> Result<String, AllocError> {
+    let holder = found.row.operation;
+    let does = if found.is_written { "writes" } else { "reads" };
     let mut line = format!(in alloc; "warning: operation {operation} {does} data at ")?;
-    push_span(alloc, &mut line, meeting.data)?;
+    push_span(alloc, &mut line, found.data)?;
     line.push_str(&format!(in alloc;
         ", and operation {holder} writes its completion records at "
     )?)?;
-    push_span(alloc, &mut line, meeting.row.span())?;
+    push_span(alloc, &mut line, found.row.span())?;
     line.push_str("\n")?;
     Ok(line)
 }
@@ -101,12 +106,12 @@ pub(crate) fn overwritten_notes(
     let farthest = farthest_of(alloc, &rows)?;
     let mut notes = Notes::new(alloc);
     for (operation, d) in operations.iter().enumerate() {
-        let meeting = written_over(d, &rows, &farthest).or(read_before(
+        let found = written_over(d, &rows, &farthest).or(read_before(
             operation, d, &rows, &farthest,
         ));
-        if let Some(meeting) = meeting {
+        if let Some(found) = found {
             if notes.count() {
-                notes.write(&line_of(alloc, operation, meeting)?)?;
+                notes.write(&line_of(alloc, operation, found)?)?;
             }
         }
     }

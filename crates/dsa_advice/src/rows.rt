@@ -10,7 +10,7 @@ use std::alloc::{AllocError, Global};
 
 /// The records of an operation, one for each of its pieces.
 #[derive(Clone, Copy)]
-pub(crate) struct Row {
+pub(crate) struct RecordRow {
     first: u64,
     records: u64,
     pub(crate) operation: usize,
@@ -18,12 +18,12 @@ pub(crate) struct Row {
 
 /// An operation whose first record is in the row of another.
 #[derive(Clone, Copy)]
-struct Shared {
-    own: Row,
-    holder: Row,
+struct RecordInRow {
+    own: RecordRow,
+    holder: RecordRow,
 }
 
-impl Row {
+impl RecordRow {
     /// The addresses of the records.
     pub(crate) fn span(self) -> Span {
         Span {
@@ -38,10 +38,10 @@ pub(crate) fn rows_of(
     alloc: Global,
     operations: &[Operation],
     settings: &Settings,
-) -> Result<Vec<Row>, AllocError> {
+) -> Result<Vec<RecordRow>, AllocError> {
     let mut rows = Vec::with_capacity(alloc, operations.len())?;
     for (operation, d) in operations.iter().enumerate() {
-        rows.push(Row {
+        rows.push(RecordRow {
             first: d.completion_record().first,
             records: count_of(d, settings) as u64,
             operation,
@@ -52,16 +52,16 @@ pub(crate) fn rows_of(
 }
 
 /// The operations whose first record is in the row of another, in the order of the operations.
-fn shared_in(alloc: Global, rows: &[Row]) -> Result<Vec<Shared>, AllocError> {
+fn shared_in(alloc: Global, rows: &[RecordRow]) -> Result<Vec<RecordInRow>, AllocError> {
     let mut shared = Vec::new(alloc);
-    let mut last: Option<Row> = None;
+    let mut last: Option<RecordRow> = None;
     for own in rows {
         let Some(holder) = last else {
             last = Some(*own);
             continue;
         };
         if u128::from(own.first) < holder.span().end() {
-            shared.push(Shared { own: *own, holder })?;
+            shared.push(RecordInRow { own: *own, holder })?;
         }
         if holder.span().end() < own.span().end() {
             last = Some(*own);
@@ -75,7 +75,7 @@ fn shared_in(alloc: Global, rows: &[Row]) -> Result<Vec<Shared>, AllocError> {
 fn taken_by(
     alloc: Global,
     operations: &[Operation],
-    rows: &[Row],
+    rows: &[RecordRow],
     settings: &Settings,
 ) -> Result<Vec<Span>, AllocError> {
     let mut taken = Vec::new(alloc);
@@ -115,7 +115,7 @@ fn free_from(taken: &[Span], from: u128, len: u64) -> Option<u64> {
 }
 
 /// The line of an operation whose record is in the row of another, with the address to use in its place.
-fn line_of(alloc: Global, shared: &Shared, free: Option<u64>) -> Result<String, AllocError> {
+fn line_of(alloc: Global, shared: &RecordInRow, free: Option<u64>) -> Result<String, AllocError> {
     let (operation, holder, records) = (
         shared.own.operation,
         shared.holder.operation,

@@ -1,7 +1,7 @@
 //! Settings, from arguments and as the member of a job.
 
 ghost use Rattle.std.specs.Prelude.{◌≡◌, IfOk, MatchOption, None, Some, option_map};
-ghost use Rattle.dsa_advice.specs.declared.settings.SettingsNumbers.{SettingsNumbers};
+ghost use Rattle.dsa_advice.specs.declared.settings.SpelledNumbers.{SpelledNumbers};
 ghost use Rattle.dsa_advice.specs.Numbers.{numbers_of};
 ghost use Rattle.dsa_advice.specs.SettingsWords.{AreNumbers, GivesSettings};
 
@@ -153,7 +153,7 @@ pub fn settings_fault(alloc: Global, words: &SettingsWords<'_>) -> Result<String
 
 /// The numbers that the words of settings spell, but for the prices of batches.
 #[derive(Clone, Copy)]
-struct SettingsNumbers {
+struct SpelledNumbers {
     greatest_batch: u64,
     greatest_transfer: u64,
     lone: u64,
@@ -162,11 +162,11 @@ struct SettingsNumbers {
 }
 
 /// The numbers that the words spell, if each spells one.
-fn numbers_of_settings(words: &SettingsWords<'_>) -> Option<SettingsNumbers>
-    ensures { MatchOption result ((n : SettingsNumbers) → ¬ AreNumbers words.now n)
+fn numbers_of_settings(words: &SettingsWords<'_>) -> Option<SpelledNumbers>
+    ensures { MatchOption result ((n : SpelledNumbers) → ¬ AreNumbers words.now n)
         (AreNumbers words.now) }
 {
-    Some(SettingsNumbers {
+    Some(SpelledNumbers {
         greatest_batch: number_of(words.greatest_batch)?,
         greatest_transfer: size_of(words.greatest_transfer)?,
         lone: number_of(words.lone)?,

@@ -38,7 +38,7 @@ struct Given<'a> {
 
 /// An address of an operation that another range has too.
 #[derive(Clone, Copy)]
-struct Meeting {
+struct SharedAddress {
     /// What part of the operation it is.
     what: &'static str,
     address: u64,
@@ -119,28 +119,28 @@ fn row(first: u64, entry: u64, count: usize) -> Span {
 }
 
 /// The first address that a range has with some of these.
-fn shared(area: Span, spans: &[Span], what: &'static str) -> Option<Meeting> {
+fn shared(area: Span, spans: &[Span], what: &'static str) -> Option<SharedAddress> {
     for span in spans {
         if meets(area, *span) {
             let address = area.first.max(span.first);
-            return Some(Meeting { what, address });
+            return Some(SharedAddress { what, address });
         }
     }
     None
 }
 
 /// An address at which the operation's data lies in a range.
-fn data_meeting(d: &Operation, area: Span) -> Option<Meeting> {
-    if let Some(meeting) = shared(area, &d.sources(), "source") {
-        return Some(meeting);
+fn data_in(d: &Operation, area: Span) -> Option<SharedAddress> {
+    if let Some(found) = shared(area, &d.sources(), "source") {
+        return Some(found);
     }
     shared(area, &d.targets(), "destination")
 }
 
 /// An address at which the operation's data, or the records of so many pieces of it, lie in a range.
-fn operation_meeting(d: &Operation, count: usize, area: Span) -> Option<Meeting> {
-    if let Some(meeting) = data_meeting(d, area) {
-        return Some(meeting);
+fn operation_in(d: &Operation, count: usize, area: Span) -> Option<SharedAddress> {
+    if let Some(found) = data_in(d, area) {
+        return Some(found);
     }
     shared(
         area,
@@ -162,7 +162,7 @@ fn push_staging(
         STAGED_LEN,
         piece_total(given.operations, given.settings),
     );
-    if let Some(Meeting { what, address }) = operation_meeting(
+    if let Some(SharedAddress { what, address }) = operation_in(
         d,
         count_of(d, given.settings),
         area,
@@ -186,7 +186,7 @@ fn push_row(
     text.push_str(&format!(in alloc; "the records of its {count} pieces, ")?)?;
     push_span(alloc, text, records)?;
     text.push_str(", meet its own ")?;
-    if let Some(Meeting { what, address }) = data_meeting(d, records) {
+    if let Some(SharedAddress { what, address }) = data_in(d, records) {
         text.push_str(&format!(in alloc; "{what} at 0x{address:x}")?)?;
     }
     text.push_str(&format!(in alloc; ": move the record, or raise {option}")?)

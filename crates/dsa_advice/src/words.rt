@@ -34,18 +34,28 @@ pub(crate) fn word_at(text: &[u8], line: usize, column: usize) -> &[u8] {
     rest.split(|byte| is_between(*byte)).next().unwrap_or(&[])
 }
 
+/// The first word of a line from this column on, and its own column, both from 1 on; none if no word is left.
+pub(crate) fn word_from(line: &[u8], column: usize) -> Option<(usize, &[u8])> {
+    let rest = line.get(column.saturating_sub(1)..)?;
+    let blanks = rest.iter().take_while(|byte| is_between(**byte)).count();
+    let word = rest.get(blanks..)?.split(|byte| is_between(*byte)).next()?;
+    if word.is_empty() {
+        return None;
+    }
+    Some((column.saturating_add(blanks), word))
+}
+
 /// The column of the word of this name in a line, or of the one after it.
 fn column_of(line: &[u8], name: &[u8], is_after: bool) -> Option<usize> {
-    let mut column: usize = 1;
+    let mut from: usize = 1;
     let mut is_named = false;
-    for word in line.split(|byte| is_between(*byte)) {
-        if !word.is_empty() {
-            if is_named || (word == name && !is_after) {
-                return Some(column);
-            }
-            is_named = word == name;
+    for _ in 0..line.len() {
+        let (column, word) = word_from(line, from)?;
+        if is_named || (word == name && !is_after) {
+            return Some(column);
         }
-        column = column.saturating_add(word.len()).saturating_add(1);
+        is_named = word == name;
+        from = column.saturating_add(word.len());
     }
     None
 }

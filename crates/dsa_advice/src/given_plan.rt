@@ -8,15 +8,15 @@ ghost use Rattle.dsa_calls.specs.Judge.{Judges, JudgesPieces};
 ghost use Rattle.dsa_calls.specs.Lists.{IsListOf};
 ghost use Rattle.dsa_explain.specs.Explained.{CanBeExplained};
 ghost use Rattle.dsa_operations.specs.declared.operation.Operation.TheVariants as operation;
-ghost use Rattle.dsa_advice.specs.declared.form.Form.TheVariants.{Words, Waits};
-ghost use Rattle.dsa_advice.specs.Explained.{AnswersJudged, ComparesCosts, ExplainsJudged, IsLeastCost, least_words, more_words};
+ghost use Rattle.dsa_advice.specs.Explained.{AnswersJudged, AnswersWithLeast, ExplainsJudged, IsLeastCost, IsNamedLeast, TellsWithLeast, least_words, more_words};
 ghost use Rattle.dsa_advice.specs.Refusals.{IsRefusal};
+ghost use Rattle.dsa_advice.specs.Shown.{CanBeShown};
 
 use crate::answer::Answer;
 use crate::explaining::operation_notes;
 use crate::form::Form;
-use crate::judged::missing_message;
-use crate::shown::{answer_plan, plain, plan_words};
+use crate::shown::{Subject, answer_plan, plain, plan_words};
+use crate::unfenced::missing_message;
 use dsa_calls::{PlanFault, judge_pieces, plan_operations};
 use dsa_descriptor::{Descriptor, DescriptorList, read_list};
 use dsa_explain::Detail;
@@ -70,88 +70,53 @@ fn least_text(alloc: Global, cost: u64, least: Option<u64>) -> Result<String, Al
     }
 }
 
-/// A judged plan in words, with what a least plan costs.
-fn judged_words(
+/// What a least plan costs, as far as the form names it: none beside what groups wait for.
+fn named_least(
     alloc: Global,
-    plan: &Plan,
     list: &DescriptorList,
+    settings: &Settings,
+    form: Form,
+) -> Result<Option<u64>, AllocError>
+    requires { list.now.barriers.items ≡ [] }
+    ensures { IfOk result
+        (IsNamedLeast settings.now (map fields list.now.descriptors.items) form) }
+{
+    match form {
+        Form::Words(_) | Form::Picture(_) | Form::Json => least_cost(alloc, list, settings),
+        Form::Waits => Ok(None),
+    }
+}
+
+/// A plan in words, and after them what a least plan costs, if that is known.
+fn words_with_least(
+    alloc: Global,
+    subject: &Subject<'_>,
     settings: &Settings,
     cost: u64,
     detail: Detail,
 ) -> Result<Answer, AllocError>
-    requires can { CanBeExplained settings.now
-        (map operation.Descriptor list.now.descriptors.items) [] plan.now }
-    requires plain { list.now.barriers.items ≡ [] }
-    ensures { IfOk result
-        (AnswersJudged settings.now plan.now list.now.descriptors.items cost (Words detail)) }
+    requires { CanBeShown settings.now subject.now }
+    ensures { IfOk result (TellsWithLeast settings.now detail subject.now cost) }
 {
-    let pieces = operations_of(alloc, &list.descriptors)?;
-    let subject = plain(plan, &pieces, None);
-    let mut text = plan_words(alloc, &subject, settings, detail)?;
-    let least = least_cost(alloc, list, settings)?;
-    text.push_str(&least_text(alloc, cost, least)?)?;
+    let mut text = plan_words(alloc, subject, settings, detail)?;
+    text.push_str(&least_text(alloc, cost, subject.least)?)?;
     Ok(Answer::done(text))
 }
 
-/// A judged plan as a picture or as JSON, with what a least plan costs.
-fn judged_with_least(
+/// A plan in a form, with what a least plan costs, if that is known.
+fn answer_with_least(
     alloc: Global,
-    plan: &Plan,
-    list: &DescriptorList,
+    subject: &Subject<'_>,
     settings: &Settings,
     cost: u64,
     form: Form,
 ) -> Result<Answer, AllocError>
-    requires can { CanBeExplained settings.now
-        (map operation.Descriptor list.now.descriptors.items) [] plan.now }
-    requires plain { list.now.barriers.items ≡ [] }
-    requires compares { ComparesCosts form }
-    ensures { IfOk result
-        (AnswersJudged settings.now plan.now list.now.descriptors.items cost form) }
-{
-    let least = least_cost(alloc, list, settings)?;
-    let pieces = operations_of(alloc, &list.descriptors)?;
-    answer_plan(alloc, &plain(plan, &pieces, least), settings, form)
-}
-
-/// A judged plan by what its groups wait for.
-fn judged_waits(
-    alloc: Global,
-    plan: &Plan,
-    list: &DescriptorList,
-    settings: &Settings,
-    cost: u64,
-) -> Result<Answer, AllocError>
-    requires { CanBeExplained settings.now
-        (map operation.Descriptor list.now.descriptors.items) [] plan.now }
-    ensures { IfOk result
-        (AnswersJudged settings.now plan.now list.now.descriptors.items cost Waits) }
-{
-    let pieces = operations_of(alloc, &list.descriptors)?;
-    answer_plan(alloc, &plain(plan, &pieces, None), settings, Form::Waits)
-}
-
-/// The answer of a judged plan in a form.
-fn judged_in_form(
-    alloc: Global,
-    plan: &Plan,
-    list: &DescriptorList,
-    settings: &Settings,
-    cost: u64,
-    form: Form,
-) -> Result<Answer, AllocError>
-    requires can { CanBeExplained settings.now
-        (map operation.Descriptor list.now.descriptors.items) [] plan.now }
-    requires plain { list.now.barriers.items ≡ [] }
-    ensures { IfOk result
-        (AnswersJudged settings.now plan.now list.now.descriptors.items cost form) }
+    requires { CanBeShown settings.now subject.now }
+    ensures { IfOk result (AnswersWithLeast settings.now subject.now cost form) }
 {
     match form {
-        Form::Words(detail) => judged_words(alloc, plan, list, settings, cost, detail),
-        Form::Picture(_) | Form::Json => {
-            judged_with_least(alloc, plan, list, settings, cost, form)
-        }
-        Form::Waits => judged_waits(alloc, plan, list, settings, cost),
+        Form::Words(detail) => words_with_least(alloc, subject, settings, cost, detail),
+        Form::Picture(_) | Form::Json | Form::Waits => answer_plan(alloc, subject, settings, form),
     }
 }
 
@@ -170,8 +135,10 @@ fn answer_judged(
     ensures { IfOk result
         (AnswersJudged settings.now plan.now list.now.descriptors.items cost form) }
 {
-    let answer = judged_in_form(alloc, plan, list, settings, cost, form)?;
     let pieces = operations_of(alloc, &list.descriptors)?;
+    let least = named_least(alloc, list, settings, form)?;
+    let subject = plain(plan, &pieces, least);
+    let answer = answer_with_least(alloc, &subject, settings, cost, form)?;
     Ok(answer.with_warnings(operation_notes(alloc, &pieces, settings)?))
 }
 

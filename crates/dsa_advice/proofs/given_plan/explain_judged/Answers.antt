@@ -7,7 +7,7 @@ use Rattle.dsa_calls.proofs.Over.{list_refused, only_outcome, said_of_list}
 use Rattle.dsa_calls.proofs.JudgedOnce.{one_judged}
 use Rattle.dsa_advice.specs.Explained.{is_refused_judge}
 use Rattle.dsa_advice.proofs.Answered.{told_cause}
-use Rattle.dsa_advice.proofs.judging.explain_judged.Goals as goal
+use Rattle.dsa_advice.proofs.given_plan.explain_judged.Goals as goal
 
 pub returns-in-Ok-clause-answer : goal.returns-in-Ok-clause-answer
 returns-in-Ok-clause-answer c =

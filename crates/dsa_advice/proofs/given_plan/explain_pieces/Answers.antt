@@ -8,8 +8,8 @@ use Rattle.dsa_advice.specs.Explained.{is_refused_judge, is_judged}
 use Rattle.dsa_explain.specs.Explained.{CanBeExplained}
 use Rattle.dsa_operations.specs.declared.operation.Operation.TheVariants as operation
 use Rattle.dsa_advice.proofs.Answered.{judged_can, same_cause}
-use Rattle.dsa_advice.proofs.judging.explain_pieces.Goals as goal
-use Rattle.dsa_advice.proofs.judging.explain_pieces.Goals.{After-answer_judged, After-refuse_judged}
+use Rattle.dsa_advice.proofs.given_plan.explain_pieces.Goals as goal
+use Rattle.dsa_advice.proofs.given_plan.explain_pieces.Goals.{After-answer_judged, After-refuse_judged}
 
 said_ok : (c : After-answer_judged) → JudgesPieces (map fields c.args.list.now.descriptors.items) c.args.plan.now c.args.settings.now (Ok c.in-Ok.cost)
 said_ok c =

@@ -3,7 +3,7 @@ use Rattle.dsa_descriptor.specs.Descriptors.{fields}
 use Rattle.dsa_calls.specs.Fenced.{PlansWith}
 use Rattle.dsa_calls.specs.Planned.{submission_of}
 use Rattle.dsa_calls.proofs.Unfenced.{no_marks_plan_alike}
-use Rattle.dsa_advice.proofs.judging.least_cost.Goals as goal
+use Rattle.dsa_advice.proofs.given_plan.least_cost.Goals as goal
 
 pub returns-in-Ok : goal.returns-in-Ok
 returns-in-Ok c =

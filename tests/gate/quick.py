@@ -15,7 +15,7 @@ import proved
 import toolchain
 
 SAYS_EVERY = 10  # seconds
-LOOKS_EVERY = 0.01  # the program is there for a moment
+LOOKS_EVERY = 0.003  # the program is there for some 50 ms
 
 
 def say(text):
